@@ -1,0 +1,90 @@
+-- "Charts worked by hand": A to L as data, and the test that each has the finishing times that document 01 gives.
+use Prim.Native.Nat.{ℕ}
+use mathlib.Core.Bool.{Bool, true}
+use mathlib.Core.List.{List, [], _∷_}
+use lib.Dec.{eqb}
+use Rattle.machine.specs.Test.{_and_}
+use Rattle.machine.specs.Instruction.{Kind, plain, load, store, branch, Flag, hit, miss, unknown, Instruction, Trace}
+use Rattle.machine.specs.Time.{best, worst}
+
+pub record Case : Type 0 where
+  pub trace : Trace
+  pub best : ℕ
+  pub worst : ℕ
+
+-- "Execution latency 0, fetch hits and no shared registers unless said": a kind, a data flag and its latency
+simple : Kind → Flag → ℕ → Instruction
+simple kind access latency =
+    record {
+      kind = kind;
+      fetch = hit;
+      access = access;
+      source1 = 0;
+      source2 = 0;
+      target = 0;
+      executionLatency = 0;
+      fetchLatency = 1;
+      dataLatency = latency;
+    }
+
+plainOne : Instruction
+unfolding simple
+plainOne = simple plain hit 0
+
+-- the same with a fetch flag and its latency, or with registers
+fetched : Flag → ℕ → Instruction → Instruction
+fetched fetch latency i =
+    record {
+      kind = i .kind;
+      fetch = fetch;
+      access = i .access;
+      source1 = i .source1;
+      source2 = i .source2;
+      target = i .target;
+      executionLatency = i .executionLatency;
+      fetchLatency = latency;
+      dataLatency = i .dataLatency;
+    }
+
+registers : ℕ → ℕ → ℕ → Instruction → Instruction
+registers source1 source2 target i =
+    record {
+      kind = i .kind;
+      fetch = i .fetch;
+      access = i .access;
+      source1 = source1;
+      source2 = source2;
+      target = target;
+      executionLatency = i .executionLatency;
+      fetchLatency = i .fetchLatency;
+      dataLatency = i .dataLatency;
+    }
+
+-- a trace without unknown flags has one finishing time
+settledCase : Trace → ℕ → Case
+settledCase trace time = record { trace = trace; best = time; worst = time }
+
+caseD : Trace
+unfolding simple plainOne registers
+caseD = registers 0 0 1 (simple load hit 1) ∷ registers 1 0 2 plainOne ∷ []
+
+unfoldable pub cases : List Case
+unfolding simple plainOne fetched registers settledCase caseD
+cases =
+    settledCase [] 0
+    ∷ settledCase (plainOne ∷ []) 6
+    ∷ settledCase (simple load miss 10 ∷ []) 16
+    ∷ settledCase caseD 8
+    ∷ settledCase (simple branch hit 0 ∷ plainOne ∷ []) 9
+    ∷ settledCase (simple load hit 1 ∷ fetched miss 10 plainOne ∷ []) 20
+    ∷ settledCase (simple load miss 10 ∷ plainOne ∷ []) 17
+    ∷ settledCase (simple load miss 10 ∷ fetched miss 1 plainOne ∷ []) 21
+    ∷ settledCase (simple store miss 10 ∷ []) 15
+    ∷ settledCase (simple store miss 10 ∷ simple store miss 10 ∷ []) 26
+    ∷ settledCase (simple store miss 10 ∷ simple store hit 1 ∷ []) 16
+    ∷ record { trace = simple load unknown 10 ∷ fetched unknown 1 plainOne ∷ []; best = 7; worst = 21 }
+    ∷ []
+
+unfoldable pub casesHold : List Case → Bool
+casesHold [] = true
+casesHold (c ∷ cs) = eqb (best (c .trace)) (c .best) and eqb (worst (c .trace)) (c .worst) and casesHold cs

@@ -1,0 +1,79 @@
+-- What is shown of the rules, as named types. `proofs/` has a term of each.
+use Prim.Native.Nat.{ℕ, _+_, _≤_, _<_}
+use mathlib.Core.Bool.{Bool, true, false}
+use mathlib.Core.Logic.{_↔_}
+use mathlib.Core.Path.{_≡_}
+use lib.Dec.{T}
+use lib.ListN.{length}
+use Rattle.machine.specs.Instruction.{hit, miss, Instruction, Trace, instruction}
+use Rattle.machine.specs.Rules.{Place, Places, further, cycle, after, allLeft}
+use Rattle.machine.specs.Time.{bound, finish, Settling, settle, best, worst}
+use Rattle.machine.specs.Order.{Slower, SameFlags, added}
+use Rattle.machine.specs.Cases.{cases, casesHold}
+use Rattle.machine.specs.State.{start, placeOf, stateOf, Orderly, orderly}
+use Rattle.machine.specs.declared.State.{State}
+
+-- "A to L are collected as data and proved by one result about the rules."
+abbrev pub CasesHold : Type 0
+CasesHold = T (casesHold cases)
+
+-- The finishing time is a number of cycles after which all have left, and the least.
+abbrev pub FinishIsLeast : Type 0
+FinishIsLeast =
+    (trace : Trace) →
+    (allLeft trace (after trace (finish trace)) ≡ true) × ((t : ℕ) → t < finish trace → allLeft trace (after trace t) ≡ false)
+
+-- "It is at most the sum over all instructions of 6 plus the three latencies"
+abbrev pub FinishBounded : Type 0
+FinishBounded = (trace : Trace) → finish trace ≤ bound trace
+
+-- "no instruction is ever further on in the second", and so it finishes no earlier
+abbrev pub Ordered : Type 0
+Ordered =
+    (first second : Trace) →
+    Slower first second →
+    ((t i : ℕ) → i < length first → further (after second t i) (after first t i) ≡ false) × (finish first ≤ finish second)
+
+-- "where only latencies differ it finishes later by at most what was added"
+abbrev pub AddedAtMost : Type 0
+AddedAtMost = (first second : Trace) → Slower first second → SameFlags first second → finish second ≤ finish first + added first second
+
+-- "no settling of its unknown flags finishes later than the worst time given or earlier than the best, and both are attained"
+abbrev pub SettlingsEnclosed : Type 0
+SettlingsEnclosed =
+    (trace : Trace) →
+    ((settling : Trace) → Settling trace settling → (best trace ≤ finish settling) × (finish settling ≤ worst trace))
+    × Settling trace (settle hit trace)
+    × Settling trace (settle miss trace)
+
+-- The test of orderly states is equivalent to the definition.
+abbrev pub OrderlyIsTested : Type 0
+OrderlyIsTested = (trace : Trace) (s : State) → Orderly trace s ↔ (orderly trace s ≡ true)
+
+abbrev pub StartIsOrderly : Type 0
+StartIsOrderly = (trace : Trace) → Orderly trace start
+
+-- One cycle keeps a state orderly.
+abbrev pub CycleKeepsOrderly : Type 0
+CycleKeepsOrderly = (trace : Trace) (s : State) → Orderly trace s → Orderly trace (stateOf trace (cycle trace (placeOf s)))
+
+-- An orderly state is the one that its places give, so two that give every instruction the same place are equal.
+abbrev pub PlacesGiveState : Type 0
+PlacesGiveState = (trace : Trace) (s : State) → Orderly trace s → stateOf trace (placeOf s) ≡ s
+
+abbrev pub PlacesTellStates : Type 0
+PlacesTellStates =
+    (trace : Trace) (a b : State) →
+    Orderly trace a →
+    Orderly trace b →
+    ((i : ℕ) → i < length trace → placeOf a i ≡ placeOf b i) →
+    a ≡ b
+
+-- The state that places give after a cycle gives every instruction the place that the cycle gives it.
+abbrev pub CycleGivesPlaces : Type 0
+CycleGivesPlaces =
+    (trace : Trace) (s : State) →
+    Orderly trace s →
+    (i : ℕ) →
+    i < length trace →
+    placeOf (stateOf trace (cycle trace (placeOf s))) i ≡ cycle trace (placeOf s) i

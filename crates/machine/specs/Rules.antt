@@ -1,0 +1,202 @@
+-- The cycle rules: document 01, "One cycle", sentence by sentence. Every test is made on the state before the cycle.
+use Prim.Native.Nat.{ℕ, zero, suc, _+_, _-_, _*_}
+use mathlib.Core.Bool.{Bool, true, false, not, cond}
+use lib.Dec.{ltb, eqb}
+use lib.ListN.{length}
+use Rattle.machine.specs.Test.{_and_, _or_, every, none}
+use Rattle.machine.specs.Instruction.{Kind, plain, load, store, branch, Flag, hit, miss, unknown, Instruction, Trace, instruction}
+
+-- "Stages run pre, IF, ID, EX, MEM, then ST for a store or WB for any other kind, then post."
+pub data Stage : Type 0 where
+  pre IF ID EX MEM ST WB post : Stage
+
+afterMEM : Kind → Stage
+afterMEM plain = WB
+afterMEM load = WB
+afterMEM store = ST
+afterMEM branch = WB
+
+unfoldable pub next : Kind → Stage → Stage
+unfolding afterMEM
+next kind pre = IF
+next kind IF = ID
+next kind ID = EX
+next kind EX = MEM
+next kind MEM = afterMEM kind
+next kind ST = post
+next kind WB = post
+next kind post = post
+
+-- how many stages lie before a stage on an instruction's way
+abbrev pub rank : Stage → ℕ
+rank pre = 0
+rank IF = 1
+rank ID = 2
+rank EX = 3
+rank MEM = 4
+rank ST = 5
+rank WB = 5
+rank post = 6
+
+-- the stages numbered, to tell one from another
+abbrev number : Stage → ℕ
+number pre = 0
+number IF = 1
+number ID = 2
+number EX = 3
+number MEM = 4
+number ST = 5
+number WB = 6
+number post = 7
+
+abbrev pub same : Stage → Stage → Bool
+same a b = eqb (number a) (number b)
+
+-- "Each instruction has a stage and a remaining count."
+pub record Place : Type 0 where
+  pub stage : Stage
+  pub count : ℕ
+
+-- where each instruction stands
+abbrev pub Places : Type 0
+Places = ℕ → Place
+
+-- "Further means a later stage, or the same stage with a smaller count."
+unfoldable pub further : Place → Place → Bool
+further a b = ltb (rank (b .stage)) (rank (a .stage)) or (same (a .stage) (b .stage) and ltb (a .count) (b .count))
+
+-- "Short of (s, c) means that (s, c), a stage and a count, is further."
+unfoldable pub shortOf : Place → Stage → ℕ → Bool
+shortOf a s c = further (record { stage = s; count = c }) a
+
+-- Which kind, and which flag
+abbrev pub isLoad : Kind → Bool
+isLoad plain = false
+isLoad load = true
+isLoad store = false
+isLoad branch = false
+
+abbrev pub isStore : Kind → Bool
+isStore plain = false
+isStore load = false
+isStore store = true
+isStore branch = false
+
+abbrev pub isBranch : Kind → Bool
+isBranch plain = false
+isBranch load = false
+isBranch store = false
+isBranch branch = true
+
+abbrev pub hits : Flag → Bool
+hits hit = true
+hits miss = false
+hits unknown = false
+
+abbrev pub misses : Flag → Bool
+misses hit = false
+misses miss = true
+misses unknown = false
+
+-- "Count on entry: IF, the fetch latency on a miss, else 0. EX, the execution latency. MEM, a load's data latency on a miss, else 0. ST, the
+-- data latency less 1 on a miss, else 0. All others 0."
+unfoldable pub entry : Instruction → Stage → ℕ
+entry i pre = 0
+entry i IF = cond (misses (i .fetch)) (i .fetchLatency) 0
+entry i ID = 0
+entry i EX = i .executionLatency
+entry i MEM = cond (isLoad (i .kind) and misses (i .access)) (i .dataLatency) 0
+entry i ST = cond (misses (i .access)) (i .dataLatency - 1) 0
+entry i WB = 0
+entry i post = 0
+
+-- "older means earlier in the trace": no older instruction passes the test, which is handed the instruction and its place
+unfoldable pub noOlder : Trace → Places → ℕ → (Instruction → Place → Bool) → Bool
+noOlder trace places i test = none (λ j. test (instruction trace j) (places j)) i
+
+-- "In pre it is ready when no older one is in pre, no older branch is short of (EX, 0), and its fetch hits or no older load is short of
+-- (MEM, 0) and no older store short of (ST, 0)."
+readyInPre : Trace → Places → ℕ → Bool
+readyInPre trace places i =
+    noOlder trace places i (λ j p. same (p .stage) pre)
+    and noOlder trace places i (λ j p. isBranch (j .kind) and shortOf p EX 0)
+    and (hits (instruction trace i .fetch)
+    or (noOlder trace places i (λ j p. isLoad (j .kind) and shortOf p MEM 0)
+    and noOlder trace places i (λ j p. isStore (j .kind) and shortOf p ST 0)))
+
+-- "one of its sources other than register 0"
+unfoldable pub reads : Instruction → ℕ → Bool
+reads i register = not (eqb register 0) and (eqb (i .source1) register or eqb (i .source2) register)
+
+-- "In ID it is ready when no older load short of (MEM, 0) has as target one of its sources other than register 0."
+readyInID : Trace → Places → ℕ → Bool
+readyInID trace places i =
+    noOlder trace places i (λ j p. isLoad (j .kind) and shortOf p MEM 0 and reads (instruction trace i) (j .target))
+
+-- "a load or store with a data miss"
+unfoldable pub missesData : Instruction → Bool
+missesData i = (isLoad (i .kind) or isStore (i .kind)) and misses (i .access)
+
+-- "In EX a load or store with a data miss is ready when no older store is short of (ST, 0)."
+readyInEX : Trace → Places → ℕ → Bool
+readyInEX trace places i =
+    not (missesData (instruction trace i)) or noOlder trace places i (λ j p. isStore (j .kind) and shortOf p ST 0)
+
+-- "Elsewhere it is always ready."
+unfoldable pub readyIn : Stage → Trace → Places → ℕ → Bool
+unfolding readyInPre readyInID readyInEX
+readyIn pre trace places i = readyInPre trace places i
+readyIn IF trace places i = true
+readyIn ID trace places i = readyInID trace places i
+readyIn EX trace places i = readyInEX trace places i
+readyIn MEM trace places i = true
+readyIn ST trace places i = true
+readyIn WB trace places i = true
+readyIn post trace places i = true
+
+unfoldable pub ready : Trace → Places → ℕ → Bool
+ready trace places i = readyIn (places i .stage) trace places i
+
+-- How far a stage is from post. "Moves" and "will be free" call each other with this distance falling; each call takes one from a budget of
+-- twice the distance, which never runs out before post.
+unfoldable pub budget : Stage → ℕ
+budget s = (6 - rank s) + (6 - rank s)
+
+unfoldable mutual
+  -- "An instruction moves when its count is 0, it is ready and its next stage will be free. [..] an instruction in post stays there."
+  pub movesWithin : ℕ → Trace → Places → ℕ → Bool
+  movesWithin zero trace places i = false
+  movesWithin (suc b) trace places i =
+      eqb (places i .count) 0
+      and ready trace places i
+      and willBeFreeWithin b trace places (next (instruction trace i .kind) (places i .stage))
+
+  -- "A stage will be free when it is empty or its occupant moves in this cycle; the occupant moves only if its own next stage will be free;
+  -- post is always free."
+  pub willBeFreeWithin : ℕ → Trace → Places → Stage → Bool
+  willBeFreeWithin zero trace places s = true
+  willBeFreeWithin (suc b) trace places s =
+      same s post or every (λ j. not (same (places j .stage) s) or movesWithin b trace places j) (length trace)
+
+unfoldable pub moves : Trace → Places → ℕ → Bool
+moves trace places i = movesWithin (budget (places i .stage)) trace places i
+
+-- "Otherwise a count above 0 falls by 1 and a count of 0 stays."
+unfoldable pub cycle : Trace → Places → Places
+cycle trace places i =
+    cond (moves trace places i)
+    (let s = next (instruction trace i .kind) (places i .stage) in record { stage = s; count = entry (instruction trace i) s })
+    (record { stage = places i .stage; count = places i .count - 1 })
+
+-- "The starting state has everything in pre"
+unfoldable pub allPre : Places
+allPre i = record { stage = pre; count = 0 }
+
+-- the places after t cycles from the start
+unfoldable pub after : Trace → ℕ → Places
+after trace zero = allPre
+after trace (suc t) = cycle trace (after trace t)
+
+-- "every instruction has left, that is, is in post"
+unfoldable pub allLeft : Trace → Places → Bool
+allLeft trace places = every (λ i. same (places i .stage) post) (length trace)

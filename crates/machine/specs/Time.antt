@@ -1,0 +1,76 @@
+-- Finishing times, settlings, best and worst: document 01, "One cycle" and "Job file and instruction record".
+use Prim.Native.Nat.{ℕ, zero, suc, _+_}
+use mathlib.Core.Bool.{Bool, true, false}
+use mathlib.Core.List.{List, [], _∷_, map}
+use mathlib.Core.Path.{_≡_}
+use Rattle.machine.specs.Instruction.{Kind, Flag, hit, miss, unknown, Instruction, Trace}
+use Rattle.machine.specs.Rules.{after, allLeft}
+
+-- "the sum over all instructions of 6 plus the three latencies"
+unfoldable pub bound : Trace → ℕ
+bound [] = 0
+bound (i ∷ trace) = (6 + i .executionLatency + i .fetchLatency + i .dataLatency) + bound trace
+
+-- the least number from t on, with at most `more` tried, at which the test passes
+unfoldable pub leastFrom : (ℕ → Bool) → ℕ → ℕ → ℕ
+leastFrom test zero t = t
+leastFrom test (suc more) t = elim (test t) [ true ↦ t | false ↦ leastFrom test more (suc t) ]
+
+-- "the finishing time is the least number of cycles from there after which every instruction has left"
+unfoldable pub finish : Trace → ℕ
+finish trace = leastFrom (λ t. allLeft trace (after trace t)) (bound trace) 0
+
+-- "A settling of it makes each unknown flag a hit or a miss, each on its own, and alters nothing else"
+pub data Settled : Flag → Flag → Type 0 where
+  hit-stays : Settled hit hit
+  miss-stays : Settled miss miss
+  unknown-hits : Settled unknown hit
+  unknown-misses : Settled unknown miss
+
+pub record SettledInstruction (i s : Instruction) : Type 0 where
+  pub kind : s .kind ≡ i .kind
+  pub fetch : Settled (i .fetch) (s .fetch)
+  pub access : Settled (i .access) (s .access)
+  pub source1 : s .source1 ≡ i .source1
+  pub source2 : s .source2 ≡ i .source2
+  pub target : s .target ≡ i .target
+  pub executionLatency : s .executionLatency ≡ i .executionLatency
+  pub fetchLatency : s .fetchLatency ≡ i .fetchLatency
+  pub dataLatency : s .dataLatency ≡ i .dataLatency
+
+pub data Settling : Trace → Trace → Type 0 where
+  settled-none : Settling [] []
+  settled-more : {i s : Instruction} {trace settling : Trace} → SettledInstruction i s → Settling trace settling → Settling (i ∷ trace) (s ∷ settling)
+
+-- every unknown flag made the one flag
+settleFlag : Flag → Flag → Flag
+settleFlag to hit = hit
+settleFlag to miss = miss
+settleFlag to unknown = to
+
+settleInstruction : Flag → Instruction → Instruction
+unfolding settleFlag
+settleInstruction to i =
+    record {
+      kind = i .kind;
+      fetch = settleFlag to (i .fetch);
+      access = settleFlag to (i .access);
+      source1 = i .source1;
+      source2 = i .source2;
+      target = i .target;
+      executionLatency = i .executionLatency;
+      fetchLatency = i .fetchLatency;
+      dataLatency = i .dataLatency;
+    }
+
+unfoldable pub settle : Flag → Trace → Trace
+unfolding settleInstruction
+settle to [] = []
+settle to (i ∷ trace) = settleInstruction to i ∷ settle to trace
+
+-- "unknown flags all hits, all misses": that no settling finishes earlier or later is shown, not assumed
+unfoldable pub best : Trace → ℕ
+best trace = finish (settle hit trace)
+
+unfoldable pub worst : Trace → ℕ
+worst trace = finish (settle miss trace)
