@@ -1,0 +1,31 @@
+use Rattle.record.proofs.Refusals.{stop, go-on}
+use Rattle.record.specs.Body.{bodyRefusal}
+use borrow.Author.Needs.{needs}
+use Rattle.record.proofs.body.body_refusal.Statement.{statement}
+use Rattle.record.proofs.body.body_refusal.Tie as tie
+use Rattle.record.proofs.body.body_refusal.Reads as reads
+use Rattle.record.proofs.body.body_refusal.Lts as lts
+use Rattle.record.proofs.body.length_refusal.Reads as length-refusal-reads
+use Rattle.record.proofs.body.record_refusal.Reads as record-refusal-reads
+
+-- src/body.rt:103:9
+length-refusal-requires : tie.Need-length-refusal-requires
+length-refusal-requires c κs = search needs
+
+-- src/body.rt:105:9
+returns : tie.Need-returns
+unfolding bodyRefusal
+returns c = stop _ (c .before .length-refusal .ensures) (c .if1 .taken)
+
+-- src/body.rt:107:5
+record-refusal-requires : tie.Need-record-refusal-requires
+record-refusal-requires c κs = search needs
+
+-- src/body.rt:100:1
+returns-2 : tie.Need-returns-2
+unfolding bodyRefusal
+returns-2 c = go-on (c .before .before .length-refusal .ensures) (c .before .if1 .left) (c .record-refusal .ensures)
+
+pub body-refusal-spec : {M : Type 1} → statement M
+body-refusal-spec =
+    tie.close (tie.spec length-refusal-requires returns record-refusal-requires returns-2)

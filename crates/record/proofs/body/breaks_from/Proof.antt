@@ -1,0 +1,34 @@
+use mathlib.Core.Path.{_∙_}
+use borrow.Author.Needs.{needs}
+use Rattle.record.proofs.body.breaks_from.Statement.{statement}
+use Rattle.record.proofs.body.breaks_from.Tie as tie
+use Rattle.record.proofs.body.breaks_from.Reads as reads
+use Rattle.record.proofs.body.breaks_from.Lts as lts
+use Rattle.record.proofs.body.breaks_rules.Reads as breaks-rules-reads
+use Rattle.record.proofs.layout.byte_at.Reads as byte-at-reads
+use Rattle.record.proofs.layout.fields_from.Reads as fields-from-reads
+
+-- src/body.rt:48:18
+fields-from-requires : tie.Need-fields-from-requires
+fields-from-requires c κs = search needs
+
+-- src/body.rt:48:57
+add-byte-at : tie.Need-add-byte-at
+add-byte-at c = search needs
+
+-- src/body.rt:48:42
+byte-at-requires : tie.Need-byte-at-requires
+byte-at-requires c κs = search needs
+
+-- src/body.rt:48:5
+breaks-rules-requires : tie.Need-breaks-rules-requires
+breaks-rules-requires c κs = search needs
+
+-- src/body.rt:44:1
+returns : tie.Need-returns
+returns c = c .breaks-rules .ensures ∙ cc
+
+pub breaks-from-spec : {M : Type 1} → statement M
+breaks-from-spec =
+    tie.close
+    (tie.spec fields-from-requires add-byte-at byte-at-requires breaks-rules-requires returns)

@@ -1,0 +1,14 @@
+use borrow.Author.Needs.{needs}
+use Rattle.record.specs.Rules.{breaksRules}
+use Rattle.record.proofs.body.breaks_rules.Statement.{statement}
+use Rattle.record.proofs.body.breaks_rules.Tie as tie
+use Rattle.record.proofs.body.breaks_rules.Reads as reads
+use Rattle.record.proofs.body.breaks_rules.Lts as lts
+
+-- src/body.rt:19:1
+returns : tie.Need-returns
+unfolding breaksRules
+returns c = search needs
+
+pub breaks-rules-spec : {M : Type 1} → statement M
+breaks-rules-spec = tie.close (tie.spec returns)

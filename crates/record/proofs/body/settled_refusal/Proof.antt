@@ -1,0 +1,31 @@
+use Rattle.record.proofs.Refusals.{stop, go-on}
+use Rattle.record.specs.Body.{settledRefusal}
+use borrow.Author.Needs.{needs}
+use Rattle.record.proofs.body.settled_refusal.Statement.{statement}
+use Rattle.record.proofs.body.settled_refusal.Tie as tie
+use Rattle.record.proofs.body.settled_refusal.Reads as reads
+use Rattle.record.proofs.body.settled_refusal.Lts as lts
+use Rattle.record.proofs.body.body_refusal.Reads as body-refusal-reads
+use Rattle.record.proofs.body.unknown_refusal.Reads as unknown-refusal-reads
+
+-- src/body.rt:114:9
+body-refusal-requires : tie.Need-body-refusal-requires
+body-refusal-requires c κs = search needs
+
+-- src/body.rt:116:9
+returns : tie.Need-returns
+unfolding settledRefusal
+returns c = stop _ (c .before .body-refusal .ensures) (c .if1 .taken)
+
+-- src/body.rt:118:5
+unknown-refusal-requires : tie.Need-unknown-refusal-requires
+unknown-refusal-requires c κs = search needs
+
+-- src/body.rt:111:1
+returns-2 : tie.Need-returns-2
+unfolding settledRefusal
+returns-2 c = go-on (c .before .before .body-refusal .ensures) (c .before .if1 .left) (c .unknown-refusal .ensures)
+
+pub settled-refusal-spec : {M : Type 1} → statement M
+settled-refusal-spec =
+    tie.close (tie.spec body-refusal-requires returns unknown-refusal-requires returns-2)

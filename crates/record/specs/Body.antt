@@ -1,0 +1,102 @@
+-- The body: its records, the trace that it stands for, the bytes of a trace, and the refusals that every call shares.
+use Prim.Native.Nat.{ℕ, zero, suc, _+_, _*_, _/_, _%_, _<_}
+use mathlib.Core.Bool.{Bool, true, false, not, _&&_, cond}
+use mathlib.Core.List.{List, [], _∷_, _++_}
+use lib.Dec.{ltb, leb, eqb}
+use lib.ListN.{length}
+use Rattle.machine.specs.Test.{every, none}
+use Rattle.machine.specs.Instruction.{Instruction, Trace}
+use Rattle.record.specs.Refusal.{_then_, _unless_, brokenRecord, outOfRange, wrongLength, unknownFlag}
+use Rattle.record.specs.Layout.{recordSize, flagsAt, byte, fieldsFrom}
+use Rattle.record.specs.Rules.{breaksRules, hasUnknown, kindNumber, flagNumber, instructionOf}
+use Rattle.record.specs.declared.layout.Fields.{Fields}
+use Rattle.record.specs.declared.layout.Read.{Read}
+
+-- what a slice of bytes holds
+abbrev pub Bytes : List ℕ → Type 0
+Bytes bytes = (k : ℕ) → byte bytes k < 256
+
+-- how many whole records there are
+abbrev pub records : List ℕ → ℕ
+records body = length body / recordSize
+
+-- record k's fields, and whether it breaks its rules or has an unknown flag
+abbrev pub fieldsAt : List ℕ → ℕ → Fields
+fieldsAt body k = fieldsFrom body (k * recordSize)
+
+unfoldable pub breaksAt : List ℕ → ℕ → Bool
+breaksAt body k = breaksRules (fieldsAt body k) (byte body (k * recordSize + flagsAt))
+
+unfoldable pub unknownAt : List ℕ → ℕ → Bool
+unknownAt body k = hasUnknown (fieldsAt body k)
+
+-- f 0, f 1, .. f (n - 1)
+module _ {A : Type 0} where
+  unfoldable pub firsts : (ℕ → A) → ℕ → List A
+  firsts f zero = []
+  firsts f (suc n) = firsts f n ++ (f n ∷ [])
+
+-- the trace that a body stands for
+unfoldable pub traceOf : List ℕ → Trace
+traceOf body = firsts (λ k. instructionOf (fieldsAt body k)) (records body)
+
+-- "Little endian": a number below 65,536 as two bytes
+abbrev pub halfBytes : ℕ → List ℕ
+halfBytes n = n % 256 ∷ n / 256 ∷ []
+
+-- the ten bytes of an instruction, and the body of a trace
+unfoldable pub recordOf : Instruction → List ℕ
+recordOf i =
+    kindNumber (i .kind)
+    ∷ (flagNumber (i .fetch) + 4 * flagNumber (i .access))
+    ∷ i .source1
+    ∷ i .source2
+    ∷ i .target
+    ∷ i .executionLatency
+    ∷ halfBytes (i .fetchLatency) ++ halfBytes (i .dataLatency)
+
+unfoldable pub bodyOf : Trace → List ℕ
+bodyOf [] = []
+bodyOf (i ∷ trace) = recordOf i ++ bodyOf trace
+
+-- "10 length not ten times a number up to 4,096"
+unfoldable pub lengthRefusal : List ℕ → ℕ
+lengthRefusal body = wrongLength unless (eqb (length body % recordSize) 0 && leb (records body) 4096)
+
+-- "8": a record breaks its rules
+unfoldable pub recordRefusal : List ℕ → ℕ
+recordRefusal body = brokenRecord unless none (breaksAt body) (records body)
+
+-- "11 an unknown flag"
+unfoldable pub unknownRefusal : List ℕ → ℕ
+unknownRefusal body = unknownFlag unless none (unknownAt body) (records body)
+
+-- "10, 8"
+unfoldable pub bodyRefusal : List ℕ → ℕ
+bodyRefusal body = lengthRefusal body then recordRefusal body
+
+-- "10, 8, 11"
+unfoldable pub settledRefusal : List ℕ → ℕ
+settledRefusal body = bodyRefusal body then unknownRefusal body
+
+-- "A refusal gives its number, zeros for numbers"
+abbrev pub noFields : Fields
+noFields =
+    record {
+      kind = 0;
+      fetch = 0;
+      access = 0;
+      source1 = 0;
+      source2 = 0;
+      target = 0;
+      execution = 0;
+      «fetch_latency» = 0;
+      «data_latency» = 0;
+    }
+
+-- "9 if k is not below the part's length divided by ten, rounded down. The fields are the bytes as they stand"
+unfoldable pub readAnswer : List ℕ → ℕ → Read
+readAnswer body k =
+    cond (ltb k (records body))
+    (record { refusal = 0; fields = fieldsAt body k })
+    (record { refusal = outOfRange; fields = noFields })

@@ -1,0 +1,27 @@
+-- What is shown of records and bodies, as named types.
+use Prim.Native.Nat.{ℕ, _≤_, _<_}
+use mathlib.Core.Bool.{false}
+use mathlib.Core.Path.{_≡_}
+use mathlib.Core.List.{List}
+use lib.ListN.{length}
+use Rattle.machine.specs.Instruction.{Instruction, Trace, instruction}
+use Rattle.record.specs.Body.{Bytes, breaksAt, traceOf, recordOf, bodyOf, bodyRefusal}
+
+-- An accepted body is the encoding of what it decodes to.
+abbrev pub AcceptedIsEncoded : Type 0
+AcceptedIsEncoded = (body : List ℕ) → Bytes body → bodyRefusal body ≡ 0 → bodyOf (traceOf body) ≡ body
+
+-- An instruction whose latencies fit their bytes and whose record is within the rules
+pub record Lawful (i : Instruction) : Type 0 where
+  pub executionLatency : i .executionLatency < 256
+  pub fetchLatency : i .fetchLatency < 65536
+  pub dataLatency : i .dataLatency < 65536
+  pub rules : breaksAt (recordOf i) 0 ≡ false
+
+-- Decoding an encoding gives the trace back, and the encoding is accepted.
+abbrev pub EncodingIsDecoded : Type 0
+EncodingIsDecoded =
+    (trace : Trace) →
+    length trace ≤ 4096 →
+    ((k : ℕ) → k < length trace → Lawful (instruction trace k)) →
+    (traceOf (bodyOf trace) ≡ trace) × (bodyRefusal (bodyOf trace) ≡ 0)

@@ -1,0 +1,60 @@
+-- The instruction record, byte by byte: document 01, "Job file and instruction record".
+use Prim.Native.Nat.{ℕ, _+_, _*_, _/_, _%_}
+use mathlib.Core.Bool.{Bool, true, false, not}
+use mathlib.Core.List.{List, [], _∷_}
+use lib.Dec.{ltb, eqb}
+use lib.ListN.{getD}
+use Rattle.machine.specs.Test.{_and_, _or_}
+use Rattle.record.specs.declared.layout.Fields.{Fields}
+
+-- "A body holds ten bytes for each instruction."
+abbrev pub recordSize : ℕ
+recordSize = 10
+
+-- "Byte 0, kind", "Byte 1, flags", "Bytes 2 and 3, source registers; byte 4, target register", "Byte 5, execution latency", "Bytes 6 and 7, fetch
+-- latency", "Bytes 8 and 9, data latency"
+abbrev pub kindAt : ℕ
+kindAt = 0
+
+abbrev pub flagsAt : ℕ
+flagsAt = 1
+
+abbrev pub source1At : ℕ
+source1At = 2
+
+abbrev pub source2At : ℕ
+source2At = 3
+
+abbrev pub targetAt : ℕ
+targetAt = 4
+
+abbrev pub executionAt : ℕ
+executionAt = 5
+
+abbrev pub fetchLatencyAt : ℕ
+fetchLatencyAt = 6
+
+abbrev pub dataLatencyAt : ℕ
+dataLatencyAt = 8
+
+abbrev pub byte : List ℕ → ℕ → ℕ
+byte bytes at = getD bytes at 0
+
+-- "Little endian": two bytes as a number
+abbrev pub half : List ℕ → ℕ → ℕ
+half bytes at = byte bytes at + 256 * byte bytes (at + 1)
+
+-- The nine fields of the record that starts at a byte, as the bytes stand. "bits 0 and 1 the fetch, bits 2 and 3 the data access"
+unfoldable pub fieldsFrom : List ℕ → ℕ → Fields
+fieldsFrom bytes at =
+    record {
+      kind = byte bytes (at + kindAt);
+      fetch = byte bytes (at + flagsAt) % 4;
+      access = byte bytes (at + flagsAt) / 4 % 4;
+      source1 = byte bytes (at + source1At);
+      source2 = byte bytes (at + source2At);
+      target = byte bytes (at + targetAt);
+      execution = byte bytes (at + executionAt);
+      «fetch_latency» = half bytes (at + fetchLatencyAt);
+      «data_latency» = half bytes (at + dataLatencyAt);
+    }

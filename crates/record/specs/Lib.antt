@@ -1,0 +1,5 @@
+pub mod Refusal
+pub mod Layout
+pub mod Rules
+pub mod Body
+pub mod Claims

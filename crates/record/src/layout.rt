@@ -1,0 +1,111 @@
+// The nine fields of an instruction's record, as the bytes stand.
+ghost use mathlib.Core.Path.{_≡_};
+ghost use Prim.Native.Nat.{_+_, _≤_, _<_};
+ghost use lib.ListN.{length};
+ghost use Rattle.record.specs.Layout.{recordSize, byte, half, fieldsFrom};
+ghost use Rattle.record.specs.Body.{readAnswer};
+use crate::refusal::OUT_OF_RANGE;
+
+// The record's size, and where each field starts in it.
+pub const RECORD_SIZE: usize = 10;
+
+pub const KIND: usize = 0;
+
+pub const FLAGS: usize = 1;
+
+pub const SOURCE1: usize = 2;
+
+pub const SOURCE2: usize = 3;
+
+pub const TARGET: usize = 4;
+
+pub const EXECUTION: usize = 5;
+
+pub const FETCH_LATENCY: usize = 6;
+
+pub const DATA_LATENCY: usize = 8;
+
+// Flags are 0 hit, 1 miss, 2 unknown.
+#[repr(C)]
+pub struct Fields {
+    pub kind: u32,
+    pub fetch: u32,
+    pub access: u32,
+    pub source1: u32,
+    pub source2: u32,
+    pub target: u32,
+    pub execution: u32,
+    pub fetch_latency: u32,
+    pub data_latency: u32,
+}
+
+#[repr(C)]
+pub struct Read {
+    pub refusal: u32,
+    pub fields: Fields,
+}
+
+fn wide(x: u8) -> u32
+    ensures { λ r. ⌜ (r ≡ x) × (r < 256) ⌝ }
+{
+    x as u32
+}
+
+pub(crate) fn byte_at(bytes: &[u8], at: usize) -> u32
+    requires { ⌜ at < length (now bytes) ⌝ }
+    ensures { λ r. ⌜ (r ≡ byte (now (bytes .entry)) at) × (r < 256) ⌝ }
+{
+    wide(bytes[at])
+}
+
+// Two bytes, the low one first.
+fn half_at(bytes: &[u8], at: usize) -> u32
+    requires { ⌜ at + 1 < length (now bytes) ⌝ }
+    ensures { λ r. ⌜ (r ≡ half (now (bytes .entry)) at) × (r < 65536) ⌝ }
+{
+    byte_at(bytes, at) + 256 * byte_at(bytes, at + 1)
+}
+
+pub(crate) fn fields_from(bytes: &[u8], at: usize) -> Fields
+    requires { ⌜ at + recordSize ≤ length (now bytes) ⌝ }
+    ensures { λ r. ⌜ r ≡ fieldsFrom (now (bytes .entry)) at ⌝ }
+{
+    let flags = byte_at(bytes, at + FLAGS);
+    Fields {
+        kind: byte_at(bytes, at + KIND),
+        fetch: flags % 4,
+        access: flags / 4 % 4,
+        source1: byte_at(bytes, at + SOURCE1),
+        source2: byte_at(bytes, at + SOURCE2),
+        target: byte_at(bytes, at + TARGET),
+        execution: byte_at(bytes, at + EXECUTION),
+        fetch_latency: half_at(bytes, at + FETCH_LATENCY),
+        data_latency: half_at(bytes, at + DATA_LATENCY),
+    }
+}
+
+// The fields of instruction k of any bytes.
+pub fn fields_at(body: &[u8], k: u32) -> Read
+    ensures { λ r. ⌜ r ≡ readAnswer (now (body .entry)) k ⌝ }
+{
+    let i = k as usize;
+    if i < body.len() / RECORD_SIZE {
+        let fields = fields_from(body, i * RECORD_SIZE);
+        return Read { refusal: 0, fields };
+    }
+    let fields = Fields {
+        kind: 0,
+        fetch: 0,
+        access: 0,
+        source1: 0,
+        source2: 0,
+        target: 0,
+        execution: 0,
+        fetch_latency: 0,
+        data_latency: 0,
+    };
+    Read {
+        refusal: OUT_OF_RANGE,
+        fields,
+    }
+}
