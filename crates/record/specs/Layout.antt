@@ -44,6 +44,10 @@ byte bytes at = getD bytes at 0
 abbrev pub half : List ℕ → ℕ → ℕ
 half bytes at = byte bytes at + 256 * byte bytes (at + 1)
 
+-- and four
+abbrev pub word : List ℕ → ℕ → ℕ
+word bytes at = byte bytes at + 256 * byte bytes (at + 1) + 65536 * byte bytes (at + 2) + 16777216 * byte bytes (at + 3)
+
 -- The nine fields of the record that starts at a byte, as the bytes stand. "bits 0 and 1 the fetch, bits 2 and 3 the data access"
 unfoldable pub fieldsFrom : List ℕ → ℕ → Fields
 fieldsFrom bytes at =

@@ -12,17 +12,18 @@ ghost use Rattle.record.specs.Body.{
   bodyRefusal,
   settledRefusal,
 };
+use crate::bytes::byte_at;
 use crate::layout::FLAGS;
 use crate::layout::Fields;
 use crate::layout::RECORD_SIZE;
-use crate::layout::byte_at;
 use crate::layout::fields_from;
 use crate::refusal::BROKEN_RECORD;
 use crate::refusal::UNKNOWN_FLAG;
 use crate::refusal::WRONG_LENGTH;
+use machine::State;
 
 // The most records that a body holds.
-const MAX_RECORDS: usize = 4096;
+const MAX_RECORDS: usize = State::MAX_INSTRUCTIONS as usize;
 
 // Whether a record breaks its rules. The faults are joined and tested once.
 fn breaks_rules(f: Fields, flags: u32) -> bool

@@ -1,9 +1,11 @@
 // The nine fields of an instruction's record, as the bytes stand.
 ghost use mathlib.Core.Path.{_≡_};
-ghost use Prim.Native.Nat.{_+_, _≤_, _<_};
+ghost use Prim.Native.Nat.{_+_, _≤_};
 ghost use lib.ListN.{length};
-ghost use Rattle.record.specs.Layout.{recordSize, byte, half, fieldsFrom};
+ghost use Rattle.record.specs.Layout.{recordSize, fieldsFrom};
 ghost use Rattle.record.specs.Body.{readAnswer};
+use crate::bytes::byte_at;
+use crate::bytes::half_at;
 use crate::refusal::OUT_OF_RANGE;
 
 // The record's size, and where each field starts in it.
@@ -43,27 +45,6 @@ pub struct Fields {
 pub struct Read {
     pub refusal: u32,
     pub fields: Fields,
-}
-
-fn wide(x: u8) -> u32
-    ensures { λ r. ⌜ (r ≡ x) × (r < 256) ⌝ }
-{
-    x as u32
-}
-
-pub(crate) fn byte_at(bytes: &[u8], at: usize) -> u32
-    requires { ⌜ at < length (now bytes) ⌝ }
-    ensures { λ r. ⌜ (r ≡ byte (now (bytes .entry)) at) × (r < 256) ⌝ }
-{
-    wide(bytes[at])
-}
-
-// Two bytes, the low one first.
-fn half_at(bytes: &[u8], at: usize) -> u32
-    requires { ⌜ at + 1 < length (now bytes) ⌝ }
-    ensures { λ r. ⌜ (r ≡ half (now (bytes .entry)) at) × (r < 65536) ⌝ }
-{
-    byte_at(bytes, at) + 256 * byte_at(bytes, at + 1)
 }
 
 pub(crate) fn fields_from(bytes: &[u8], at: usize) -> Fields

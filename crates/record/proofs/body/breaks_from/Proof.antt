@@ -5,7 +5,7 @@ use Rattle.record.proofs.body.breaks_from.Tie as tie
 use Rattle.record.proofs.body.breaks_from.Reads as reads
 use Rattle.record.proofs.body.breaks_from.Lts as lts
 use Rattle.record.proofs.body.breaks_rules.Reads as breaks-rules-reads
-use Rattle.record.proofs.layout.byte_at.Reads as byte-at-reads
+use Rattle.record.proofs.bytes.byte_at.Reads as byte-at-reads
 use Rattle.record.proofs.layout.fields_from.Reads as fields-from-reads
 
 -- src/body.rt:48:18

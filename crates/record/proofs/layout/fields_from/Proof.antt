@@ -4,8 +4,8 @@ use Rattle.record.proofs.layout.fields_from.Statement.{statement}
 use Rattle.record.proofs.layout.fields_from.Tie as tie
 use Rattle.record.proofs.layout.fields_from.Reads as reads
 use Rattle.record.proofs.layout.fields_from.Lts as lts
-use Rattle.record.proofs.layout.byte_at.Reads as byte-at-reads
-use Rattle.record.proofs.layout.half_at.Reads as half-at-reads
+use Rattle.record.proofs.bytes.byte_at.Reads as byte-at-reads
+use Rattle.record.proofs.bytes.half_at.Reads as half-at-reads
 
 -- src/layout.rt:66:32
 add-byte-at : tie.Need-add-byte-at
