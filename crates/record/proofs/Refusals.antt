@@ -1,8 +1,11 @@
 -- A call goes through its refusals in their order: it answers the first that holds, and what follows where it does not hold.
-use Prim.Native.Nat.{ℕ}
+use Prim.Native.Nat.{ℕ, suc}
 use mathlib.Core.Path.{_≡_, refl, sym, _∙_}
+use mathlib.Core.Bool.{Bool, true, false}
+use native.Mathlib.Decide.{ℕ-discrete}
+use native.Mathlib.Nat.{suc-ne-zero}
 use borrow.Author.Tests.{eq-eqb, ne-eqb}
-use Rattle.record.specs.Refusal.{_then_}
+use Rattle.record.specs.Refusal.{_then_, _unless_}
 
 pub then-none : (first second : ℕ) → first ≡ 0 → (first then second) ≡ second
 unfolding _then_
@@ -18,3 +21,16 @@ stop second e h = e ∙ sym (then-some _ second (λ q. h (e ∙ q)))
 
 pub go-on : {r q first second : ℕ} → r ≡ first → r ≡ 0 → q ≡ second → q ≡ (first then second)
 go-on e z f = f ∙ sym (then-none _ _ (sym e ∙ z))
+
+-- where nothing refuses, neither does
+pub then-first : (first second : ℕ) → (first then second) ≡ 0 → first ≡ 0
+then-first first second e = elim (ℕ-discrete first 0) [ yes z ↦ z | no h ↦ sym (then-some first second h) ∙ e ]
+
+pub then-second : (first second : ℕ) → (first then second) ≡ 0 → second ≡ 0
+then-second first second e = sym (then-none first second (then-first first second e)) ∙ e
+
+-- a refusal that is given unless a test passes
+pub unless-passed : (n : ℕ) (ok : Bool) → (suc n unless ok) ≡ 0 → ok ≡ true
+unfolding _unless_
+unless-passed n true e = refl
+unless-passed n false e = absurd (suc-ne-zero n e)

@@ -3,7 +3,7 @@ use Prim.Native.Nat.{ℕ}
 use mathlib.Core.Bool.{Bool, true, false, cond}
 use lib.Dec.{eqb}
 
-infixl 20 _then_
+infixr 20 _then_
 infixl 25 _unless_
 -- "where several hold, the first in its list is named": the first refusal, or the second where the first is none
 unfoldable pub _then_ : ℕ → ℕ → ℕ

@@ -1,0 +1,5 @@
+pub mod First
+pub mod Entries
+pub mod Starts
+pub mod Joined
+pub mod Accepted

@@ -1,0 +1,5 @@
+pub mod Refusal
+pub mod Layout
+pub mod Open
+pub mod Write
+pub mod RoundTrip

@@ -1,0 +1,10 @@
+// The job file: Open finds a trace's body in a file, Write makes a file of counts and records.
+pub mod refusal;
+pub mod table;
+pub mod writing;
+
+pub use table::Located;
+pub use table::file_refusal;
+pub use table::locate;
+pub use writing::Written;
+pub use writing::write;
