@@ -1,4 +1,7 @@
 pub mod First
+pub mod Put
+pub mod WrittenTable
+pub mod WriteAnswer
 pub mod Entries
 pub mod Starts
 pub mod Joined

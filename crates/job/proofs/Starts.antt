@@ -3,15 +3,19 @@ use Prim.Native.Nat.{ℕ, zero, suc, _+_, _*_, _<_, _≤_}
 use mathlib.Core.Logic.{⊎-elim}
 use mathlib.Core.Path.{_≡_, refl, sym, ap, subst, _∙_}
 use native.Mathlib.Nat.{le-of-suc-le-suc, not-suc-le-zero, eq-or-lt-of-le, le-refl}
+use native.Mathlib.Numerals.{add-one}
 use native.Mathlib.Omega.{arith}
 use Rattle.record.specs.Layout.{recordSize}
-use Rattle.job.specs.Layout.{entryAt, bodyStart}
+use Rattle.job.specs.Layout.{entryAt, before, bodyStart}
 use Rattle.job.proofs.Entries.{start-zero, start-suc}
 
--- how many instructions the traces below t have
-unfoldable pub before : (ℕ → ℕ) → ℕ → ℕ
-before count zero = 0
-before count (suc t) = before count t + count t
+pub before-zero : (count : ℕ → ℕ) → before count 0 ≡ 0
+unfolding before
+before-zero count = refl
+
+pub before-more : (count : ℕ → ℕ) (t : ℕ) → before count (t + 1) ≡ before count t + count t
+unfolding before
+before-more count t = ap (before count) (add-one t)
 
 module _ (T : ℕ) (count : ℕ → ℕ) where
   pub start-before : (t : ℕ) → bodyStart T count t ≡ entryAt T + recordSize * before count t

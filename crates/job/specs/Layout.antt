@@ -37,6 +37,11 @@ countAt file t = half file (entryAt t + countInEntry)
 abbrev pub maxFile : ℕ
 maxFile = 65536
 
+-- how many instructions the traces before t have
+unfoldable pub before : (ℕ → ℕ) → ℕ → ℕ
+before count zero = 0
+before count (suc t) = before count t + count t
+
 -- "The first body starts at 2 + 6T, each later one where its forerunner ends": where body t starts, by the counts before it
 unfoldable pub bodyStart : ℕ → (ℕ → ℕ) → ℕ → ℕ
 bodyStart T count zero = entryAt T

@@ -5,9 +5,9 @@ use mathlib.Core.Path.{_≡_}
 use lib.ListN.{length, take, drop}
 use Rattle.record.specs.Layout.{recordSize}
 use Rattle.record.specs.Body.{Bytes, firsts}
-use Rattle.job.specs.Layout.{traces, countAt, entryAt}
+use Rattle.job.specs.Layout.{traces, countAt, entryAt, before}
 use Rattle.job.specs.Open.{fileRefusal, openRefusal, openBody}
-use Rattle.job.specs.Write.{count, sum, fileOf, writeRefusal}
+use Rattle.job.specs.Write.{count, fileOf, writeRefusal}
 
 -- the counts and the joined records of a file
 abbrev pub countsOf : List ℕ → List ℕ
@@ -18,7 +18,7 @@ recordsOf file = drop (entryAt (traces file)) file
 
 -- the records of trace t among the joined ones
 abbrev pub recordsAt : List ℕ → List ℕ → ℕ → List ℕ
-recordsAt counts records t = take (recordSize * count counts t) (drop (recordSize * sum (take t counts)) records)
+recordsAt counts records t = take (recordSize * count counts t) (drop (recordSize * before (count counts) t) records)
 
 pub record RoundTrip : Type 0 where
   -- what Write accepts, with any output, is written as an accepted file that opens at each trace number as just that trace's records

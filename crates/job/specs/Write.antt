@@ -2,34 +2,37 @@
 use Prim.Native.Nat.{ℕ, zero, suc, _+_, _*_, _/_, _%_}
 use mathlib.Core.Bool.{Bool, true, false, cond}
 use mathlib.Core.List.{List, [], _∷_, _++_}
-use lib.Dec.{leb, eqb}
+use lib.Dec.{ltb, leb, eqb}
 use lib.ListN.{length, getD, drop}
-use Rattle.machine.specs.Test.{every}
+use Rattle.machine.specs.Test.{none}
 use Rattle.record.specs.Refusal.{_then_, _unless_}
 use Rattle.record.specs.Layout.{recordSize}
 use Rattle.record.specs.Body.{halfBytes, recordRefusal}
 use Rattle.job.specs.Refusal.{tooLong, tooManyTraces, largeCount, wrongRecords, shortOutput}
-use Rattle.job.specs.Layout.{maxTraces, maxCount, maxFile, entryAt, bodyStart}
+use Rattle.job.specs.Layout.{maxTraces, maxCount, maxFile, entryAt, before, bodyStart}
 use Rattle.job.specs.declared.writing.Written.{Written}
 
 abbrev pub count : List ℕ → ℕ → ℕ
 count counts t = getD counts t 0
 
 -- "the counts' sum"
-unfoldable pub sum : List ℕ → ℕ
-sum [] = 0
-sum (n ∷ counts) = n + sum counts
+abbrev pub sum : List ℕ → ℕ
+sum counts = before (count counts) (length counts)
 
 -- the length of the file: header, table and records
 unfoldable pub fileLength : List ℕ → List ℕ → ℕ
 fileLength counts records = entryAt (length counts) + length records
+
+-- "5 a count above 4,096"
+unfoldable pub countsRefusal : List ℕ → ℕ
+countsRefusal counts = largeCount unless none (λ t. ltb maxCount (count counts t)) (length counts)
 
 -- "3 more than 16 counts. 5 a count above 4,096. 13 records not ten times the counts' sum long. 1 file above 65,536. 8. 14 output shorter than
 -- the file."
 unfoldable pub writeRefusal : List ℕ → List ℕ → ℕ → ℕ
 writeRefusal counts records room =
     tooManyTraces unless leb (length counts) maxTraces
-    then (largeCount unless every (λ t. leb (count counts t) maxCount) (length counts))
+    then countsRefusal counts
     then (wrongRecords unless eqb (length records) (recordSize * sum counts))
     then (tooLong unless leb (fileLength counts records) maxFile)
     then recordRefusal records

@@ -34,3 +34,20 @@ pub unless-passed : (n : ℕ) (ok : Bool) → (suc n unless ok) ≡ 0 → ok ≡
 unfolding _unless_
 unless-passed n true e = refl
 unless-passed n false e = absurd (suc-ne-zero n e)
+
+-- a test on the way, failed and passed, and the last
+pub fails : (n : ℕ) {ok : Bool} (second : ℕ) → ok ≡ false → suc n ≡ (suc n unless ok then second)
+unfolding _unless_
+fails n second e = stop second (rw e) (λ z. suc-ne-zero n z)
+
+pub passes : (n : ℕ) {ok : Bool} {q second : ℕ} → ok ≡ true → q ≡ second → q ≡ (suc n unless ok then second)
+unfolding _unless_
+passes n e f = f ∙ sym (then-none _ _ (rw e))
+
+pub last-fails : (n : ℕ) {ok : Bool} → ok ≡ false → n ≡ (n unless ok)
+unfolding _unless_
+last-fails n e = rw e
+
+pub last-passes : (n : ℕ) {ok : Bool} → ok ≡ true → 0 ≡ (n unless ok)
+unfolding _unless_
+last-passes n e = rw e
