@@ -1,1 +1,4 @@
 pub mod Cases
+pub mod Connectives
+pub mod Stages
+pub mod Orderly
