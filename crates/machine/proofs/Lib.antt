@@ -2,3 +2,5 @@ pub mod Cases
 pub mod Connectives
 pub mod Stages
 pub mod Orderly
+pub mod Places
+pub mod Spots
