@@ -90,6 +90,25 @@ unfolding _or_
 or-else true b e f = clash refl f
 or-else false b e f = e
 
+pub true-and : (a : Bool) → true and a ≡ a
+unfolding _and_
+true-and a = refl
+
+pub and-true : (a : Bool) → a and true ≡ a
+unfolding _and_
+and-true true = refl
+and-true false = refl
+
+pub and-false : (a : Bool) → a and false ≡ false
+unfolding _and_
+and-false true = refl
+and-false false = refl
+
+pub or-false : (a : Bool) → a or false ≡ a
+unfolding _or_
+or-false true = refl
+or-false false = refl
+
 -- a test that must pass only under a condition
 pub implied : (a b : Bool) → (a ≡ true → b ≡ true) → not a or b ≡ true
 unfolding _or_

@@ -4,3 +4,5 @@ pub mod Stages
 pub mod Orderly
 pub mod Places
 pub mod Spots
+pub mod BySlots
+pub mod Ready
