@@ -6,3 +6,4 @@ pub mod Places
 pub mod Spots
 pub mod BySlots
 pub mod Ready
+pub mod Moving
