@@ -7,3 +7,6 @@ pub mod Spots
 pub mod BySlots
 pub mod Ready
 pub mod Moving
+pub mod Flow
+pub mod StepOrderly
+pub mod Step

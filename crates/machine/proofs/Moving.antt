@@ -14,8 +14,8 @@ use Rattle.machine.specs.State.{slot, holds, placeOf, Orderly}
 use Rattle.machine.specs.declared.Slot.{Slot}
 use Rattle.machine.specs.declared.State.{State}
 use Rattle.machine.proofs.Connectives.{clash, Value, passed, failed, value, both-ways, and-failed-l, and-failed-r, implied, implies, or-l, true-and, every-at, every-below, none-fails}
-use Rattle.machine.proofs.Stages.{eight, same-stage, stage-same}
-use Rattle.machine.proofs.Spots.{inside, held-filled, held-index, held-at, slot-fetched, place-held, place-waiting}
+use Rattle.machine.proofs.Stages.{same-stage, stage-same, inside, between}
+use Rattle.machine.proofs.Spots.{held-filled, held-index, held-at, slot-fetched, place-held, place-waiting}
 use Rattle.machine.proofs.BySlots.{standing, heldBack, goes, occupied, storeInMEM, nextIn, movesIn, freeIn, movesAt, leaves}
 use Rattle.machine.proofs.Ready.{ready-by-slots}
 
@@ -37,18 +37,6 @@ next-not-pre false MEM = refl
 next-not-pre inMEM ST = refl
 next-not-pre inMEM WB = refl
 next-not-pre inMEM post = refl
-
-between : (k : Stage) → same k pre ≡ false → same k post ≡ false → inside k ≡ true
-between =
-    eight (λ k. same k pre ≡ false → same k post ≡ false → inside k ≡ true)
-    (λ a b. clash refl a)
-    (λ a b. refl)
-    (λ a b. refl)
-    (λ a b. refl)
-    (λ a b. refl)
-    (λ a b. refl)
-    (λ a b. refl)
-    (λ a b. clash refl b)
 
 pub standing-slot : (trace : Trace) (s : State) (k : Stage) → inside k ≡ true → standing trace s k ≡ slot s k
 unfolding standing

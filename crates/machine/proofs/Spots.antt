@@ -16,7 +16,7 @@ use Rattle.machine.specs.Claims.{PlacesGiveState, PlacesTellStates}
 use Rattle.machine.specs.declared.Slot.{Slot}
 use Rattle.machine.specs.declared.State.{State}
 use Rattle.machine.proofs.Connectives.{clash, Value, passed, failed, value, Order, less, equal, more, order, and-l, and-r, and-both}
-use Rattle.machine.proofs.Stages.{level, stageAt, eight, same-stage, stage-same}
+use Rattle.machine.proofs.Stages.{stageAt, eight, same-stage, inside, inside-rank, inside-not-pre}
 use Rattle.machine.proofs.Places.{fetched-is, occupant-none, occupant-is, state-agrees}
 
 pub data Spot (s : State) (i : ℕ) : Place → Type 0 where
@@ -80,17 +80,6 @@ younger-grows : (s : State) (a b : ℕ) → a ≤ b → youngerAt s a ≤ younge
 unfolding youngerAt
 younger-grows s a b h = le-ind (λ b. youngerAt s a ≤ youngerAt s b) (omega arith) (λ b l r. omega arith) b h
 
--- the stages that have a slot
-abbrev pub inside : Stage → Bool
-inside pre = false
-inside IF = true
-inside ID = true
-inside EX = true
-inside MEM = true
-inside ST = true
-inside WB = true
-inside post = false
-
 -- the stage of a rank, for a store or another kind
 stageOf : ℕ → Bool → Stage
 stageOf r store = cond (eqb r 5) (cond store ST WB) (stageAt r)
@@ -98,21 +87,6 @@ stageOf r store = cond (eqb r 5) (cond store ST WB) (stageAt r)
 pub slot-inside : (s : State) (k : Stage) → slot s k .filled ≡ true → inside k ≡ true
 slot-inside s =
     eight (λ k. slot s k .filled ≡ true → inside k ≡ true) (λ f. f) (λ f. refl) (λ f. refl) (λ f. refl) (λ f. refl) (λ f. refl) (λ f. refl) (λ f. f)
-
-inside-rank : (k : Stage) → inside k ≡ true → rank k ≤ 5
-inside-rank =
-    eight (λ k. inside k ≡ true → rank k ≤ 5)
-    (λ w. omega arith)
-    (λ w. omega arith)
-    (λ w. omega arith)
-    (λ w. omega arith)
-    (λ w. omega arith)
-    (λ w. omega arith)
-    (λ w. omega arith)
-    (λ w. clash w refl)
-
-inside-not-pre : (k : Stage) → inside k ≡ true → same k pre ≡ false
-inside-not-pre = eight (λ k. inside k ≡ true → same k pre ≡ false) (λ w. sym w) (λ w. refl) (λ w. refl) (λ w. refl) (λ w. refl) (λ w. refl) (λ w. refl) (λ w. refl)
 
 module _ (trace : Trace) (s : State) (o : Orderly trace s) where
   -- a slot of IF to MEM or WB holds the youngest that no slot before it holds, a slot of ST an older one

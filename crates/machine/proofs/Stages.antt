@@ -1,11 +1,12 @@
 -- The stages as numbers, which tell one stage from another: the level that the code counts with, pre 0 to post 7.
-use Prim.Native.Nat.{ℕ, zero, suc}
+use Prim.Native.Nat.{ℕ, zero, suc, _≤_}
+use native.Mathlib.Omega.{arith}
 use mathlib.Core.Bool.{Bool, true, false}
 use mathlib.Core.Path.{_≡_, refl, sym, ap, _∙_}
 use lib.Dec.{eqb}
 use borrow.Author.Tests.{eqb-true, eq-eqb}
-use Rattle.machine.specs.Rules.{Stage, pre, IF, ID, EX, MEM, ST, WB, post, same}
-use Rattle.machine.proofs.Connectives.{both-ways}
+use Rattle.machine.specs.Rules.{Stage, pre, IF, ID, EX, MEM, ST, WB, post, rank, same}
+use Rattle.machine.proofs.Connectives.{clash}
 
 abbrev pub level : Stage → ℕ
 level pre = 0
@@ -57,3 +58,53 @@ same-stage a b e = sym (stage-level a) ∙ ap stageAt (eqb-true (level a) (level
 
 pub stage-same : (a b : Stage) → a ≡ b → same a b ≡ true
 stage-same a b e = same-level a b ∙ eq-eqb (level a) (level b) (ap level e)
+
+-- the stages that have a slot
+abbrev pub inside : Stage → Bool
+inside pre = false
+inside IF = true
+inside ID = true
+inside EX = true
+inside MEM = true
+inside ST = true
+inside WB = true
+inside post = false
+
+pub inside-rank : (k : Stage) → inside k ≡ true → rank k ≤ 5
+inside-rank =
+    eight (λ k. inside k ≡ true → rank k ≤ 5)
+    (λ w. omega arith)
+    (λ w. omega arith)
+    (λ w. omega arith)
+    (λ w. omega arith)
+    (λ w. omega arith)
+    (λ w. omega arith)
+    (λ w. omega arith)
+    (λ w. clash w refl)
+
+pub inside-not-pre : (k : Stage) → inside k ≡ true → same k pre ≡ false
+inside-not-pre = eight (λ k. inside k ≡ true → same k pre ≡ false) (λ w. sym w) (λ w. refl) (λ w. refl) (λ w. refl) (λ w. refl) (λ w. refl) (λ w. refl) (λ w. refl)
+
+pub inside-not-post : (k : Stage) → inside k ≡ true → same k post ≡ false
+inside-not-post =
+    eight (λ k. inside k ≡ true → same k post ≡ false)
+    (λ w. refl)
+    (λ w. refl)
+    (λ w. refl)
+    (λ w. refl)
+    (λ w. refl)
+    (λ w. refl)
+    (λ w. refl)
+    (λ w. sym w)
+
+pub between : (k : Stage) → same k pre ≡ false → same k post ≡ false → inside k ≡ true
+between =
+    eight (λ k. same k pre ≡ false → same k post ≡ false → inside k ≡ true)
+    (λ a b. clash refl a)
+    (λ a b. refl)
+    (λ a b. refl)
+    (λ a b. refl)
+    (λ a b. refl)
+    (λ a b. refl)
+    (λ a b. refl)
+    (λ a b. clash refl b)
