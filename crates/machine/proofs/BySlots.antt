@@ -151,11 +151,13 @@ arrives trace s k = leaves trace s (before k) and takes (storeInMEM trace s) k
 -- a slot after the cycle: what comes in, else what stays, its count less 1, else nothing
 unfoldable pub slotAfter : Bool → ℕ → ℕ → Bool → Slot → Slot
 slotAfter true index count gone old = record { filled = true; index = index; count = count }
-slotAfter false index count gone old = cond (old .filled and not gone) (record { filled = true; index = old .index; count = old .count - 1 }) emptySlot
+slotAfter false index count gone old =
+    cond (old .filled and not gone) (record { filled = true; index = old .index; count = old .count - 1 }) emptySlot
 
 unfoldable pub newSlot : Trace → State → Stage → Slot
 newSlot trace s k =
-    slotAfter (arrives trace s k) (standing trace s (before k) .index) (entry (instruction trace (standing trace s (before k) .index)) k) (leaves trace s k) (slot s k)
+    let coming = standing trace s (before k) .index in
+    slotAfter (arrives trace s k) coming (entry (instruction trace coming) k) (leaves trace s k) (slot s k)
 
 unfoldable pub stepBySlots : Trace → State → State
 stepBySlots trace s =

@@ -1,13 +1,13 @@
 -- Laws of the shut connectives of tests. Each takes the tests that it is about as explicit arguments, so that a call is `and-l _ _ e`.
-use Prim.Native.Nat.{ℕ, zero, suc, _≤_, _<_}
+use Prim.Native.Nat.{ℕ, zero, suc, _<_}
 use native.Mathlib.Omega.{arith}
-use mathlib.Core.Bool.{Bool, true, false, not, cond, true≢false}
+use mathlib.Core.Bool.{Bool, true, false, not, true≢false}
 use mathlib.Core.Path.{_≡_, refl, sym, ap, _∙_}
 use lib.Dec.{ltb, eqb}
-use borrow.Author.Tests.{ltb-true, ltb-false, eqb-true, eqb-false}
+use borrow.Author.Tests.{ltb-true, ltb-false, eqb-true, eqb-false, not-true}
 use Rattle.machine.specs.Test.{_and_, _or_, every, none}
 
--- A test is what it is, whatever it was called before.
+-- a test does not both pass and fail
 pub clash {ℓ} : {A : Type ℓ} {b : Bool} → b ≡ true → b ≡ false → A
 clash t f = absurd (true≢false (sym t ∙ f))
 
@@ -19,14 +19,6 @@ pub data Value (b : Bool) : Type 0 where
 pub value : (b : Bool) → Value b
 value true = passed refl
 value false = failed refl
-
-pub not-passed : (b : Bool) → not b ≡ true → b ≡ false
-not-passed true e = sym e
-not-passed false e = refl
-
-pub not-failed : (b : Bool) → not b ≡ false → b ≡ true
-not-failed true e = refl
-not-failed false e = sym e
 
 -- two tests that pass together are equal
 pub both-ways : (a b : Bool) → (a ≡ true → b ≡ true) → (b ≡ true → a ≡ true) → a ≡ b
@@ -160,7 +152,7 @@ module _ (test : ℕ → Bool) where
 
 pub none-at : (test : ℕ → Bool) (n : ℕ) → none test n ≡ true → (k : ℕ) → k < n → test k ≡ false
 unfolding none
-none-at test n e k h = not-passed _ (every-at (λ k. not (test k)) n e k h)
+none-at test n e k h = not-true _ (every-at (λ k. not (test k)) n e k h)
 
 pub none-below : (test : ℕ → Bool) (n : ℕ) → ((k : ℕ) → k < n → test k ≡ false) → none test n ≡ true
 unfolding none

@@ -1,27 +1,36 @@
 -- What comes into a slot and what goes in one cycle by slots: a slot that something comes into is empty or leaves, so the filled slots before
 -- a stage change by what enters at IF less what comes into the stage.
-use Prim.Native.Nat.{ℕ, zero, suc, _+_, _-_, _≤_, _<_}
+use Prim.Native.Nat.{ℕ, suc, _+_, _-_}
 use native.Mathlib.Omega.{arith}
 use mathlib.Core.Bool.{Bool, true, false, not, cond}
 use mathlib.Core.Path.{_≡_, refl, sym, ap, subst, _∙_}
-use lib.Dec.{eqb, ltb}
-use lib.ListN.{length}
-use borrow.Author.Tests.{eqb-true}
-use Rattle.machine.specs.Test.{_and_, _or_}
+use borrow.Author.Tests.{not-true}
+use Rattle.machine.specs.Test.{_and_}
 use Rattle.machine.specs.Instruction.{Trace, instruction}
 use Rattle.machine.specs.Rules.{Stage, pre, IF, ID, EX, MEM, ST, WB, post, same, entry, budget}
-use Rattle.machine.specs.State.{emptySlot, slot, younger, Orderly}
+use Rattle.machine.specs.State.{emptySlot, slot, younger}
 use Rattle.machine.specs.declared.Slot.{Slot}
 use Rattle.machine.specs.declared.State.{State}
-use Rattle.machine.proofs.Connectives.{clash, Value, passed, failed, value, not-passed, and-l, and-r, and-true, and-false, or-else, implies}
+use Rattle.machine.proofs.Connectives.{clash, Value, passed, failed, value, and-l, and-r, and-true, or-else, implies}
 use Rattle.machine.proofs.Stages.{same-stage, inside, inside-not-post}
 use Rattle.machine.proofs.BySlots.{standing, goes, occupied, storeInMEM, nextIn, movesIn, movesAt, freeAt, moves-at, free-at, leaves, before, takes, arrives, slotAfter, newSlot, stepBySlots}
 use Rattle.machine.proofs.Moving.{standing-slot}
 
 -- a slot after the cycle, as what happened to it
 pub data After (trace : Trace) (s : State) (k : Stage) : Slot → Type 0 where
-  came : arrives trace s k ≡ true → After trace s k (record { filled = true; index = standing trace s (before k) .index; count = entry (instruction trace (standing trace s (before k) .index)) k })
-  stayed : arrives trace s k ≡ false → slot s k .filled ≡ true → leaves trace s k ≡ false → After trace s k (record { filled = true; index = slot s k .index; count = slot s k .count - 1 })
+  came :
+      arrives trace s k ≡ true →
+      After trace s k
+      (record {
+        filled = true;
+        index = standing trace s (before k) .index;
+        count = entry (instruction trace (standing trace s (before k) .index)) k;
+      })
+  stayed :
+      arrives trace s k ≡ false →
+      slot s k .filled ≡ true →
+      leaves trace s k ≡ false →
+      After trace s k (record { filled = true; index = slot s k .index; count = slot s k .count - 1 })
   vacant : arrives trace s k ≡ false → slot s k .filled and not (leaves trace s k) ≡ false → After trace s k emptySlot
 
 pub takes-next : (inMEM : Bool) (k : Stage) → takes inMEM k ≡ true → nextIn inMEM (before k) ≡ k
@@ -44,18 +53,21 @@ module _ (trace : Trace) (s : State) where
     where
       by : Value (arrives trace s k) → Value (slot s k .filled and not (leaves trace s k)) → After trace s k (newSlot trace s k)
       by (passed a) v = rw a (came a)
-      by (failed a) (passed e) = rw (a, e) (stayed a (and-l _ _ e) (not-passed _ (and-r _ _ e)))
+      by (failed a) (passed e) = rw (a, e) (stayed a (and-l _ _ e) (not-true _ (and-r _ _ e)))
       by (failed a) (failed e) = rw (a, e) (vacant a e)
 
-  pub leaves-post : leaves trace s post ≡ false
+  leaves-post : leaves trace s post ≡ false
   unfolding leaves movesAt movesIn budget
   leaves-post = refl
 
-  leaves-both : (k : Stage) → leaves trace s k ≡ true → goes trace s k and freeAt (goes trace s) (occupied trace s) (storeInMEM trace s) (nextIn (storeInMEM trace s) k) ≡ true
-  unfolding leaves
+  free : Stage → Bool
+  free k = freeAt (goes trace s) (occupied trace s) (storeInMEM trace s) k
+
+  leaves-both : (k : Stage) → leaves trace s k ≡ true → goes trace s k and free (nextIn (storeInMEM trace s) k) ≡ true
+  unfolding leaves free
   leaves-both k e = by (value (same k post))
     where
-      by : Value (same k post) → goes trace s k and freeAt (goes trace s) (occupied trace s) (storeInMEM trace s) (nextIn (storeInMEM trace s) k) ≡ true
+      by : Value (same k post) → goes trace s k and free (nextIn (storeInMEM trace s) k) ≡ true
       by (passed p) = clash e (ap (leaves trace s) (same-stage k post p) ∙ leaves-post)
       by (failed p) = sym (moves-at (goes trace s) (occupied trace s) (storeInMEM trace s) k p) ∙ e
 
@@ -63,18 +75,14 @@ module _ (trace : Trace) (s : State) where
   unfolding goes
   leaves-filled k e = and-l _ _ (and-l _ _ (and-l _ _ (leaves-both k e)))
 
-  pub leaves-count : (k : Stage) → leaves trace s k ≡ true → standing trace s k .count ≡ 0
-  unfolding goes
-  leaves-count k e = eqb-true _ 0 (and-r _ _ (and-l _ _ (and-l _ _ (leaves-both k e))))
-
   -- what something comes into is empty or leaves
   pub arrives-free : (k : Stage) → inside k ≡ true → arrives trace s k ≡ true → slot s k .filled ≡ true → leaves trace s k ≡ true
-  unfolding arrives leaves occupied
+  unfolding arrives leaves occupied free
   arrives-free k w a f =
       let e = and-r _ _ (leaves-both (before k) (and-l _ _ a)) in
-      let free = subst (λ (k : Stage). freeAt (goes trace s) (occupied trace s) (storeInMEM trace s) k ≡ true) (takes-next (storeInMEM trace s) k (and-r _ _ a)) e in
+      let into = subst (λ (k : Stage). free k ≡ true) (takes-next (storeInMEM trace s) k (and-r _ _ a)) e in
       implies _ _
-      (or-else _ _ (sym (free-at (goes trace s) (occupied trace s) (storeInMEM trace s) k) ∙ free) (inside-not-post k w))
+      (or-else _ _ (sym (free-at (goes trace s) (occupied trace s) (storeInMEM trace s) k) ∙ into) (inside-not-post k w))
       (ap (λ (r : Slot). r .filled) (standing-slot trace s k w) ∙ f)
 
 -- a test as a number
@@ -98,7 +106,10 @@ balance false false true index count i c free had = refl
 balance false false false index count i c free had = refl
 
 module _ (trace : Trace) (s : State) where
-  slot-balance : (k : Stage) → inside k ≡ true → bit (newSlot trace s k .filled) + bit (leaves trace s k) ≡ bit (slot s k .filled) + bit (arrives trace s k)
+  slot-balance :
+      (k : Stage) →
+      inside k ≡ true →
+      bit (newSlot trace s k .filled) + bit (leaves trace s k) ≡ bit (slot s k .filled) + bit (arrives trace s k)
   unfolding newSlot
   slot-balance k w =
       balance (arrives trace s k) (leaves trace s k) (slot s k .filled) _ _ (slot s k .index) (slot s k .count)
@@ -125,13 +136,16 @@ module _ (trace : Trace) (s : State) where
       ∙ ap (λ (b : Bool). bit (slot s k .filled) + bit b) (ap (λ (b : Bool). leaves trace s (before k) and b) t ∙ and-true _)
 
   -- the filled slots before a stage, before and after
-  pub younger-after : (k : Stage) → inside k ≡ true → younger (stepBySlots trace s) k + bit (leaves trace s (before k)) ≡ younger s k + bit (leaves trace s pre)
+  pub younger-after :
+      (k : Stage) →
+      inside k ≡ true →
+      younger (stepBySlots trace s) k + bit (leaves trace s (before k)) ≡ younger s k + bit (leaves trace s pre)
   unfolding stepBySlots younger before takes
   younger-after pre w = clash w refl
   younger-after IF w = refl
   younger-after ID w = passes IF refl refl
-  younger-after EX w = let a = passes IF refl refl in let b = passes ID refl refl in omega arith
-  younger-after MEM w = let a = passes IF refl refl in let b = passes ID refl refl in let c = passes EX refl refl in omega arith
-  younger-after ST w = let a = passes IF refl refl in let b = passes ID refl refl in let c = passes EX refl refl in let d = passes MEM refl refl in omega arith
-  younger-after WB w = let a = passes IF refl refl in let b = passes ID refl refl in let c = passes EX refl refl in let d = passes MEM refl refl in omega arith
+  younger-after EX w = omega (arith, passes IF refl refl, passes ID refl refl)
+  younger-after MEM w = omega (arith, passes IF refl refl, passes ID refl refl, passes EX refl refl)
+  younger-after ST w = omega (arith, passes IF refl refl, passes ID refl refl, passes EX refl refl, passes MEM refl refl)
+  younger-after WB w = omega (arith, passes IF refl refl, passes ID refl refl, passes EX refl refl, passes MEM refl refl)
   younger-after post w = clash w refl

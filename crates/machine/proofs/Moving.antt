@@ -2,15 +2,14 @@
 -- induction on the budget that both share.
 use Prim.Native.Nat.{ℕ, zero, suc, _≤_, _<_}
 use native.Mathlib.Omega.{arith}
-use mathlib.Core.Bool.{Bool, true, false, not, cond}
+use mathlib.Core.Bool.{Bool, true, false, not}
 use mathlib.Core.Path.{_≡_, refl, sym, ap, ap₂, subst, _∙_}
-use lib.Dec.{ltb, eqb}
+use lib.Dec.{eqb}
 use lib.ListN.{length}
-use borrow.Author.Tests.{ltb-true}
 use Rattle.machine.specs.Test.{_and_, _or_, every}
 use Rattle.machine.specs.Instruction.{Kind, plain, load, store, branch, Trace, instruction}
-use Rattle.machine.specs.Rules.{Stage, pre, IF, ID, EX, MEM, ST, WB, post, next, same, Place, Places, isStore, noOlder, readyIn, ready, budget, movesWithin, willBeFreeWithin, moves}
-use Rattle.machine.specs.State.{slot, holds, placeOf, Orderly}
+use Rattle.machine.specs.Rules.{Stage, pre, IF, ID, EX, MEM, ST, WB, post, next, same, Place, isStore, noOlder, readyIn, ready, budget, movesWithin, willBeFreeWithin, moves}
+use Rattle.machine.specs.State.{slot, placeOf, Orderly}
 use Rattle.machine.specs.declared.Slot.{Slot}
 use Rattle.machine.specs.declared.State.{State}
 use Rattle.machine.proofs.Connectives.{clash, Value, passed, failed, value, both-ways, and-failed-l, and-failed-r, implied, implies, or-l, true-and, every-at, every-below, none-fails}
@@ -50,7 +49,10 @@ standing-slot trace s WB w = refl
 standing-slot trace s post w = refl
 
 module _ (trace : Trace) (s : State) (o : Orderly trace s) where
-  pub standing-place : (k : Stage) → standing trace s k .filled ≡ true → placeOf s (standing trace s k .index) ≡ record { stage = k; count = standing trace s k .count }
+  pub standing-place :
+      (k : Stage) →
+      standing trace s k .filled ≡ true →
+      placeOf s (standing trace s k .index) ≡ record { stage = k; count = standing trace s k .count }
   unfolding standing
   standing-place pre f = place-waiting trace s o (s .fetched) (omega arith)
   standing-place IF f = place-held trace s o IF _ f refl
@@ -118,7 +120,11 @@ module _ (trace : Trace) (s : State) (o : Orderly trace s) where
   asks : ℕ → Stage → ℕ → Bool
   asks b k j = not (same (placeOf s j .stage) k) or movesWithin b trace (placeOf s) j
 
-  asked-filled : (b : ℕ) (k : Stage) → inside k ≡ true → slot s k .filled ≡ true → every (asks b k) (length trace) ≡ movesWithin b trace (placeOf s) (slot s k .index)
+  asked-filled :
+      (b : ℕ) (k : Stage) →
+      inside k ≡ true →
+      slot s k .filled ≡ true →
+      every (asks b k) (length trace) ≡ movesWithin b trace (placeOf s) (slot s k .index)
   unfolding asks
   asked-filled b k w f = both-ways _ _ forth back
     where
@@ -133,7 +139,11 @@ module _ (trace : Trace) (s : State) (o : Orderly trace s) where
       back : movesWithin b trace (placeOf s) (slot s k .index) ≡ true → every (asks b k) (length trace) ≡ true
       back m =
           every-below (asks b k) (length trace)
-          (λ j l. implied _ _ (λ e. subst (λ (i : ℕ). movesWithin b trace (placeOf s) i ≡ true) (held-index s j k (held-at trace s o k j w (same-stage (placeOf s j .stage) k e))) m))
+          (λ j l.
+          implied _ _
+          (λ e.
+          let h = held-at trace s o k j w (same-stage (placeOf s j .stage) k e) in
+          subst (λ (i : ℕ). movesWithin b trace (placeOf s) i ≡ true) (held-index s j k h) m))
 
   asked-empty : (b : ℕ) (k : Stage) → inside k ≡ true → slot s k .filled ≡ false → every (asks b k) (length trace) ≡ true
   unfolding asks

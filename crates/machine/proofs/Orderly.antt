@@ -1,22 +1,25 @@
 -- The test of orderly states is equivalent to the definition, conjunct by conjunct; the starting state is orderly.
-use Prim.Native.Nat.{ℕ, zero, suc, _+_, _≤_, _<_, zero-le}
-use native.Mathlib.Omega.{arith}
+use Prim.Native.Nat.{ℕ, _+_, _≤_, zero-le}
 use mathlib.Core.Bool.{Bool, true, false, not, cond}
-use mathlib.Core.Path.{_≡_, refl, sym, ap, ap₂, _∙_}
-use lib.Dec.{leb, ltb, eqb}
+use mathlib.Core.Path.{_≡_, refl, ap, ap₂}
+use lib.Dec.{leb, eqb}
 use lib.ListN.{length}
-use borrow.Author.Tests.{leb-true, ltb-true, eqb-true, le-leb, lt-ltb, eq-eqb}
+use borrow.Author.Tests.{leb-true, ltb-true, eqb-true, le-leb, lt-ltb, eq-eqb, not-true}
 use Rattle.machine.specs.Test.{_and_, _or_}
 use Rattle.machine.specs.Instruction.{Trace, instruction}
-use Rattle.machine.specs.Rules.{Stage, pre, IF, ID, EX, MEM, ST, WB, post, entry, isStore}
+use Rattle.machine.specs.Rules.{Stage, pre, IF, ID, EX, MEM, ST, WB, post, entry}
 use Rattle.machine.specs.State.{emptySlot, start, slot, younger, InTurn, Counted, Orderly, orderly}
 use Rattle.machine.specs.Claims.{OrderlyIsTested, StartIsOrderly}
 use Rattle.machine.specs.declared.Slot.{Slot}
 use Rattle.machine.specs.declared.State.{State}
-use Rattle.machine.proofs.Connectives.{clash, Value, passed, failed, value, not-passed, and-l, and-r, and-both, implied, implies}
+use Rattle.machine.proofs.Connectives.{clash, and-l, and-r, and-both, implied, implies}
 use Rattle.machine.proofs.Stages.{eight}
 
--- a slot's count and emptiness, by its fields
+-- a slot's count and emptiness
+abbrev countedIn : Slot → ℕ → Bool
+countedIn slot most = cond (slot .filled) (leb (slot .count) most) (eqb (slot .index) 0 and eqb (slot .count) 0)
+
+-- the same by its fields
 count-tested :
     (f : Bool) (i c most : ℕ) →
     (f ≡ true → c ≤ most) →
@@ -36,7 +39,8 @@ count-empty :
     f ≡ false →
     _≡_ {A = Slot} (record { filled = f; index = i; count = c }) emptySlot
 count-empty true i c most e t = clash refl t
-count-empty false i c most e t = ap₂ (λ (i c : ℕ). record { filled = false; index = i; count = c }) (eqb-true i 0 (and-l _ _ e)) (eqb-true c 0 (and-r _ _ e))
+count-empty false i c most e t =
+    ap₂ (λ (i c : ℕ). record { filled = false; index = i; count = c }) (eqb-true i 0 (and-l _ _ e)) (eqb-true c 0 (and-r _ _ e))
 
 module _ (trace : Trace) (s : State) where
   turn-tested : (k : Stage) → InTurn s k → not (slot s k .filled) or eqb (slot s k .index + younger s k + 1) (s .fetched) ≡ true
@@ -48,12 +52,12 @@ module _ (trace : Trace) (s : State) where
   counted-tested :
       (k : Stage) →
       Counted trace s k →
-      cond (slot s k .filled) (leb (slot s k .count) (entry (instruction trace (slot s k .index)) k)) (eqb (slot s k .index) 0 and eqb (slot s k .count) 0) ≡ true
+      countedIn (slot s k) (entry (instruction trace (slot s k .index)) k) ≡ true
   counted-tested k c = count-tested (slot s k .filled) (slot s k .index) (slot s k .count) _ (c .within) (c .empty)
 
   counted-holds :
       (k : Stage) →
-      cond (slot s k .filled) (leb (slot s k .count) (entry (instruction trace (slot s k .index)) k)) (eqb (slot s k .index) 0 and eqb (slot s k .count) 0) ≡ true →
+      countedIn (slot s k) (entry (instruction trace (slot s k .index)) k) ≡ true →
       Counted trace s k
   counted-holds k e =
       record {
@@ -118,7 +122,7 @@ module _ (trace : Trace) (s : State) where
         inEX = turn-holds EX (and-r _ _ e3);
         inMEM = turn-holds MEM (and-r _ _ e4);
         inWB = turn-holds WB (and-r _ _ e5);
-        noStore = λ f. not-passed _ (implies _ _ (and-r _ _ e6) f);
+        noStore = λ f. not-true _ (implies _ _ (and-r _ _ e6) f);
         inST = λ f. ltb-true (s .ST .index + younger s ST) (s .fetched) (implies _ _ (and-r _ _ e7) f);
         aStore = implies _ _ (and-r _ _ e8);
         counted =

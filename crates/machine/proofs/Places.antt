@@ -2,15 +2,14 @@
 -- Only places below the trace's end count.
 use Prim.Native.Nat.{ℕ, zero, suc, _≤_, _<_}
 use native.Mathlib.Omega.{arith}
-use mathlib.Core.Bool.{Bool, true, false, cond}
+use mathlib.Core.Bool.{true, false, cond}
 use mathlib.Core.Path.{_≡_, refl, sym, ap, ap₂, _∙_}
 use lib.ListN.{length}
 use Rattle.machine.specs.Instruction.{Trace}
 use Rattle.machine.specs.Rules.{Stage, pre, IF, ID, EX, MEM, ST, WB, Place, Places, same}
 use Rattle.machine.specs.State.{emptySlot, fetchedBelow, occupantBelow, stateOf}
 use Rattle.machine.specs.declared.Slot.{Slot}
-use Rattle.machine.specs.declared.State.{State}
-use Rattle.machine.proofs.Connectives.{clash, Value, passed, failed, value, Order, less, equal, more, order}
+use Rattle.machine.proofs.Connectives.{Value, passed, failed, value, Order, less, equal, more, order}
 use Rattle.machine.proofs.Stages.{same-stage, stage-same}
 
 module _ (places : Places) where

@@ -1,19 +1,16 @@
 -- Ready, by slots: the rules' "no older .. such that" are one test of all older instructions, and in an orderly state those that fail it
 -- stand in slots.
-use Prim.Native.Nat.{ℕ, zero, suc, _≤_, _<_}
+use Prim.Native.Nat.{ℕ, _≤_, _<_}
 use native.Mathlib.Omega.{arith}
-use mathlib.Core.Bool.{Bool, true, false, not, cond}
-use mathlib.Core.Path.{_≡_, refl, sym, ap, ap₂, subst, fun-ext, _∙_}
-use lib.Dec.{ltb, eqb}
-use lib.ListN.{length}
-use borrow.Author.Tests.{ltb-true, lt-ltb}
-use Rattle.machine.specs.Test.{_and_, _or_, every, none}
+use mathlib.Core.Bool.{Bool, true, false, not}
+use mathlib.Core.Path.{_≡_, refl, sym, ap, subst, fun-ext, _∙_}
+use borrow.Author.Tests.{ltb-true, lt-ltb, not-true}
+use Rattle.machine.specs.Test.{_and_, _or_, none}
 use Rattle.machine.specs.Instruction.{Kind, plain, load, store, branch, Instruction, Trace, instruction}
-use Rattle.machine.specs.Rules.{Stage, pre, IF, ID, EX, MEM, ST, WB, post, same, Place, Places, further, shortOf, isLoad, isStore, isBranch, hits, reads, missesData, noOlder, readyIn, ready}
-use Rattle.machine.specs.State.{emptySlot, slot, holds, placeOf, Orderly}
-use Rattle.machine.specs.declared.Slot.{Slot}
+use Rattle.machine.specs.Rules.{Stage, pre, IF, ID, EX, MEM, ST, WB, post, same, Place, Places, further, shortOf, isLoad, isStore, isBranch, hits, noOlder, readyIn, ready}
+use Rattle.machine.specs.State.{slot, placeOf, Orderly}
 use Rattle.machine.specs.declared.State.{State}
-use Rattle.machine.proofs.Connectives.{clash, Value, passed, failed, value, not-passed, both-ways, and-l, and-r, and-both, and-failed-l, true-and, and-true, and-false, or-false, or-failed, or-failed-l, or-failed-r, none-at, none-below, none-fails, none-either, none-unless}
+use Rattle.machine.proofs.Connectives.{clash, Value, passed, failed, value, both-ways, and-l, and-r, and-both, and-failed-l, true-and, and-true, and-false, or-false, or-failed, or-failed-l, or-failed-r, none-at, none-below, none-either, none-unless}
 use Rattle.machine.proofs.Stages.{eight}
 use Rattle.machine.proofs.Spots.{Spot, waiting, held, left, spot, place-held, not-waiting}
 use Rattle.machine.proofs.BySlots.{pending, waitsFor, holdsBack, heldBack}
@@ -43,7 +40,9 @@ in-ID load p read = refl
 in-ID store p read = sym (and-false (shortOf p ST 0))
 in-ID branch p read = sym (and-false (shortOf p EX 0))
 
-in-EX : (kind : Kind) (p : Place) (misses : Bool) → not (not misses) and (isStore kind and shortOf p ST 0) ≡ pending kind p and (isStore kind and misses)
+in-EX :
+    (kind : Kind) (p : Place) (misses : Bool) →
+    not (not misses) and (isStore kind and shortOf p ST 0) ≡ pending kind p and (isStore kind and misses)
 unfolding pending _and_
 in-EX plain p true = refl
 in-EX plain p false = refl
@@ -148,7 +147,7 @@ module _ (trace : Trace) (s : State) (o : Orderly trace s) (k : Stage) (i : ℕ)
           ap not (or-failed _ _ (or-failed _ _ (or-failed _ _ (or-failed _ _ (or-failed _ _ (at IF) (at ID)) (at EX)) (at MEM)) (at ST)) (at WB))
 
       back : not (heldBack trace s k i) ≡ true → none (λ j. test j (placeOf s j)) i ≡ true
-      back e = none-below _ i (λ j l. spot-waits h (not-passed _ e) j l (spot s j))
+      back e = none-below _ i (λ j l. spot-waits h (not-true _ e) j l (spot s j))
 
   -- an instruction below the fetched count, or the next to be fetched, is ready when no slot holds it back
   pub ready-by-slots : i ≤ s .fetched → placeOf s i .stage ≡ k → ready trace (placeOf s) i ≡ not (heldBack trace s k i)

@@ -7,13 +7,12 @@ use mathlib.Core.Bool.{Bool, true, false, cond}
 use mathlib.Core.Path.{_≡_, refl, sym, ap, ap₂, subst, _∙_}
 use lib.Dec.{leb, eqb}
 use lib.ListN.{length}
-use borrow.Author.Tests.{leb-true, leb-false, le-leb, lt-leb, eqb-true, eq-eqb}
+use borrow.Author.Tests.{leb-true, leb-false, le-leb, eqb-true, eq-eqb}
 use Rattle.machine.specs.Test.{_and_}
 use Rattle.machine.specs.Instruction.{Trace, instruction}
-use Rattle.machine.specs.Rules.{Stage, pre, IF, ID, EX, MEM, ST, WB, post, rank, same, Place, Places, isStore}
-use Rattle.machine.specs.State.{emptySlot, slot, holds, placeOf, stateOf, fetchedBelow, occupantBelow, younger, InTurn, Counted, Orderly}
+use Rattle.machine.specs.Rules.{Stage, pre, IF, ID, EX, MEM, ST, WB, post, rank, same, Place, isStore}
+use Rattle.machine.specs.State.{emptySlot, slot, holds, placeOf, stateOf, occupantBelow, younger, Orderly}
 use Rattle.machine.specs.Claims.{PlacesGiveState, PlacesTellStates}
-use Rattle.machine.specs.declared.Slot.{Slot}
 use Rattle.machine.specs.declared.State.{State}
 use Rattle.machine.proofs.Connectives.{clash, Value, passed, failed, value, Order, less, equal, more, order, and-l, and-r, and-both}
 use Rattle.machine.proofs.Stages.{stageAt, eight, same-stage, inside, inside-rank, inside-not-pre}

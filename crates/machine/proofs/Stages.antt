@@ -83,7 +83,16 @@ inside-rank =
     (λ w. clash w refl)
 
 pub inside-not-pre : (k : Stage) → inside k ≡ true → same k pre ≡ false
-inside-not-pre = eight (λ k. inside k ≡ true → same k pre ≡ false) (λ w. sym w) (λ w. refl) (λ w. refl) (λ w. refl) (λ w. refl) (λ w. refl) (λ w. refl) (λ w. refl)
+inside-not-pre =
+    eight (λ k. inside k ≡ true → same k pre ≡ false)
+    (λ w. sym w)
+    (λ w. refl)
+    (λ w. refl)
+    (λ w. refl)
+    (λ w. refl)
+    (λ w. refl)
+    (λ w. refl)
+    (λ w. refl)
 
 pub inside-not-post : (k : Stage) → inside k ≡ true → same k post ≡ false
 inside-not-post =

@@ -1,22 +1,21 @@
 -- One cycle by slots is one cycle of the rules on an orderly state: each slot afterwards gives its instruction the place that the rules give
 -- it, and every instruction that the rules leave in a stage with a slot is in that slot. So a cycle keeps a state orderly.
-use Prim.Native.Nat.{ℕ, zero, suc, _+_, _-_, _≤_, _<_}
+use Prim.Native.Nat.{ℕ, _-_, _≤_, _<_}
 use native.Mathlib.Omega.{arith}
-use mathlib.Core.Bool.{Bool, true, false, not, cond}
-use mathlib.Core.Path.{_≡_, refl, sym, ap, ap₂, subst, _∙_}
+use mathlib.Core.Bool.{Bool, true, false, not}
+use mathlib.Core.Path.{_≡_, refl, sym, ap, subst, _∙_}
 use lib.ListN.{length}
 use borrow.Author.Tests.{lt-ltb, eq-eqb}
-use Rattle.machine.specs.Test.{_and_}
 use Rattle.machine.specs.Instruction.{Trace, instruction}
-use Rattle.machine.specs.Rules.{Stage, pre, IF, ID, EX, MEM, ST, WB, post, next, same, Place, Places, entry, moves, cycle}
-use Rattle.machine.specs.State.{emptySlot, slot, holds, placeOf, stateOf, Orderly}
+use Rattle.machine.specs.Rules.{Stage, pre, IF, ID, EX, MEM, ST, WB, post, next, Place, Places, entry, moves, cycle}
+use Rattle.machine.specs.State.{slot, holds, placeOf, stateOf, Orderly}
 use Rattle.machine.specs.Claims.{CycleKeepsOrderly, CycleGivesPlaces}
 use Rattle.machine.specs.declared.Slot.{Slot}
 use Rattle.machine.specs.declared.State.{State}
 use Rattle.machine.proofs.Connectives.{clash, Value, passed, failed, value, Order, less, equal, more, order, and-l, and-r, and-both}
-use Rattle.machine.proofs.Stages.{eight, inside}
+use Rattle.machine.proofs.Stages.{inside}
 use Rattle.machine.proofs.Places.{state-agrees}
-use Rattle.machine.proofs.Spots.{Spot, waiting, held, left, spot, held-both, slot-inside, place-held, place-waiting, places-give-state}
+use Rattle.machine.proofs.Spots.{Spot, waiting, held, left, spot, slot-inside, place-waiting, places-give-state}
 use Rattle.machine.proofs.BySlots.{standing, storeInMEM, nextIn, leaves, before, takes, arrives, newSlot, stepBySlots}
 use Rattle.machine.proofs.Moving.{standing-slot, standing-place, standing-next, moves-by-slots, waiting-stays, left-stays}
 use Rattle.machine.proofs.Flow.{After, came, stayed, vacant, after-cycle, takes-next, leaves-filled, arrives-free, bit, fetched-after}
@@ -39,13 +38,20 @@ onward inMEM ST = out refl
 onward inMEM WB = out refl
 onward inMEM post = out refl
 
--- the two branches of a cycle
+-- where an instruction enters a stage, and where one that stays is a cycle on
+abbrev entering : Trace → ℕ → Stage → Place
+entering trace i to = record { stage = to; count = entry (instruction trace i) to }
+
+abbrev staying : Place → Place
+staying p = record { stage = p .stage; count = p .count - 1 }
+
+-- the rules' cycle, for one that moves and one that stays
 module _ (trace : Trace) (places : Places) (i : ℕ) where
-  cycle-moves : moves trace places i ≡ true → cycle trace places i ≡ record { stage = next (instruction trace i .kind) (places i .stage); count = entry (instruction trace i) (next (instruction trace i .kind) (places i .stage)) }
+  cycle-moves : moves trace places i ≡ true → cycle trace places i ≡ entering trace i (next (instruction trace i .kind) (places i .stage))
   unfolding cycle
   cycle-moves e = rw e
 
-  cycle-stays : moves trace places i ≡ false → cycle trace places i ≡ record { stage = places i .stage; count = places i .count - 1 }
+  cycle-stays : moves trace places i ≡ false → cycle trace places i ≡ staying (places i)
   unfolding cycle
   cycle-stays e = rw e
 
@@ -55,12 +61,13 @@ module _ (trace : Trace) (s : State) (o : Orderly trace s) where
       (k : Stage) →
       leaves trace s k ≡ true →
       cycle trace (placeOf s) (standing trace s k .index)
-      ≡ record { stage = nextIn (storeInMEM trace s) k; count = entry (instruction trace (standing trace s k .index)) (nextIn (storeInMEM trace s) k) }
+      ≡ entering trace (standing trace s k .index) (nextIn (storeInMEM trace s) k)
   goes-on k l =
       let f = leaves-filled trace s k l in
       cycle-moves trace (placeOf s) _ (moves-by-slots trace s o k f ∙ l)
-      ∙ ap (λ (to : Stage). record { stage = to; count = entry (instruction trace (standing trace s k .index)) to })
-      (ap (λ (p : Place). next (instruction trace (standing trace s k .index) .kind) (p .stage)) (standing-place trace s o k f) ∙ standing-next trace s o k)
+      ∙ ap (entering trace (standing trace s k .index))
+      (ap (λ (p : Place). next (instruction trace (standing trace s k .index) .kind) (p .stage)) (standing-place trace s o k f)
+      ∙ standing-next trace s o k)
 
   stays-on :
       (k : Stage) →
@@ -69,14 +76,20 @@ module _ (trace : Trace) (s : State) (o : Orderly trace s) where
       cycle trace (placeOf s) (standing trace s k .index) ≡ record { stage = k; count = standing trace s k .count - 1 }
   stays-on k f l =
       cycle-stays trace (placeOf s) _ (moves-by-slots trace s o k f ∙ l)
-      ∙ ap (λ (p : Place). record { stage = p .stage; count = p .count - 1 }) (standing-place trace s o k f)
+      ∙ ap staying (standing-place trace s o k f)
 
   -- each slot afterwards has the place that the rules give its instruction
-  slot-place : (k : Stage) → inside k ≡ true → {new : Slot} → After trace s k new → new .filled ≡ true → cycle trace (placeOf s) (new .index) ≡ record { stage = k; count = new .count }
+  slot-place :
+      (k : Stage) →
+      inside k ≡ true →
+      {new : Slot} →
+      After trace s k new →
+      new .filled ≡ true →
+      cycle trace (placeOf s) (new .index) ≡ record { stage = k; count = new .count }
   unfolding arrives
   slot-place k w (came a) f =
       goes-on (before k) (and-l _ _ a)
-      ∙ ap (λ (to : Stage). record { stage = to; count = entry (instruction trace (standing trace s (before k) .index)) to }) (takes-next (storeInMEM trace s) k (and-r _ _ a))
+      ∙ ap (entering trace (standing trace s (before k) .index)) (takes-next (storeInMEM trace s) k (and-r _ _ a))
   slot-place k w (stayed a g l) f =
       let q = standing-slot trace s k w in
       subst (λ (r : Slot). cycle trace (placeOf s) (r .index) ≡ record { stage = k; count = r .count - 1 }) q
@@ -84,7 +97,14 @@ module _ (trace : Trace) (s : State) (o : Orderly trace s) where
   slot-place k w (vacant a e) f = clash f refl
 
   -- what stays or comes is in the slot afterwards
-  stays-in : (k : Stage) → inside k ≡ true → slot s k .filled ≡ true → leaves trace s k ≡ false → {new : Slot} → After trace s k new → holds new (slot s k .index) ≡ true
+  stays-in :
+      (k : Stage) →
+      inside k ≡ true →
+      slot s k .filled ≡ true →
+      leaves trace s k ≡ false →
+      {new : Slot} →
+      After trace s k new →
+      holds new (slot s k .index) ≡ true
   unfolding holds
   stays-in k w f l (came a) = clash (arrives-free trace s k w a f) l
   stays-in k w f l (stayed a g m) = and-both _ _ refl (eq-eqb (slot s k .index) (slot s k .index) refl)
@@ -124,7 +144,7 @@ module _ (trace : Trace) (s : State) (o : Orderly trace s) where
       (comes-in to (and-both _ _ (subst (λ (k : Stage). leaves trace s k ≡ true) (sym b) l) t) (after-cycle trace s to)))
       (subst (λ (r : Slot). holds r (standing trace s k .index) ≡ false) (slot-after to w) (none to))
   gone k f stay none (passed l) (out e) =
-      goes-on k l ∙ ap (λ (to : Stage). record { stage = to; count = entry (instruction trace (standing trace s k .index)) to }) e
+      goes-on k l ∙ ap (entering trace (standing trace s k .index)) e
   gone k f stay none (failed l) onward =
       let q = standing-slot trace s k (stay l) in
       clash
@@ -133,12 +153,20 @@ module _ (trace : Trace) (s : State) (o : Orderly trace s) where
       (subst (λ (r : Slot). holds r (standing trace s k .index) ≡ false) (slot-after k (stay l)) (none k)))
 
   -- Each instruction's place afterwards, by where it is then.
-  in-pre : (i : ℕ) → i < length trace → stepBySlots trace s .fetched ≤ i → Order (s .fetched) i → Value (leaves trace s pre) → cycle trace (placeOf s) i ≡ record { stage = pre; count = 0 }
+  in-pre :
+      (i : ℕ) →
+      i < length trace →
+      stepBySlots trace s .fetched ≤ i →
+      Order (s .fetched) i →
+      Value (leaves trace s pre) →
+      cycle trace (placeOf s) i ≡ record { stage = pre; count = 0 }
   unfolding standing
-  in-pre i h w (less l) v = cycle-stays trace (placeOf s) i (waiting-stays trace s o i l) ∙ ap (λ (p : Place). record { stage = p .stage; count = p .count - 1 }) (place-waiting trace s o i (omega arith))
+  in-pre i h w (less l) v =
+      cycle-stays trace (placeOf s) i (waiting-stays trace s o i l) ∙ ap staying (place-waiting trace s o i (omega arith))
   in-pre i h w (equal e) (passed l) = let all = fetched-after trace s in let one = ap bit l in absurd (omega arith)
   in-pre i h w (equal e) (failed l) =
-      subst (λ (i : ℕ). cycle trace (placeOf s) i ≡ record { stage = pre; count = 0 }) e (stays-on pre (lt-ltb (s .fetched) (length trace) (omega arith)) l)
+      subst (λ (i : ℕ). cycle trace (placeOf s) i ≡ record { stage = pre; count = 0 }) e
+      (stays-on pre (lt-ltb (s .fetched) (length trace) (omega arith)) l)
   in-pre i h w (more l) v = let all = fetched-after trace s in absurd (omega arith)
 
   in-post-from :
@@ -177,7 +205,7 @@ module _ (trace : Trace) (s : State) (o : Orderly trace s) where
       in-post-from i k (ap (λ (r : Slot). r .index) q ∙ d) (ap (λ (r : Slot). r .filled) q ∙ f) (λ n. in-slot) none
   in-post i h w none e (left l off) v =
       cycle-stays trace (placeOf s) i (left-stays trace s o i (ap (λ (p : Place). p .stage) e))
-      ∙ ap (λ (p : Place). record { stage = p .stage; count = p .count - 1 }) e
+      ∙ ap staying e
 
   cycle-places : (i : ℕ) → i < length trace → {p : Place} → Spot (stepBySlots trace s) i p → p ≡ cycle trace (placeOf s) i
   cycle-places i h (waiting w) = sym (in-pre i h w (order (s .fetched) i) (value (leaves trace s pre)))

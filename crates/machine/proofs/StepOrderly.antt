@@ -1,21 +1,20 @@
 -- One cycle by slots keeps a state orderly: each slot afterwards holds what came or what stayed, and both are in turn since the filled slots
 -- before it and the fetched count have changed alike.
-use Prim.Native.Nat.{ℕ, zero, suc, _+_, _-_, _≤_, _<_}
+use Prim.Native.Nat.{ℕ, _+_, _≤_, _<_}
 use native.Mathlib.Omega.{arith}
-use mathlib.Core.Bool.{Bool, true, false, not, cond}
-use mathlib.Core.Path.{_≡_, refl, sym, ap, subst, _∙_}
-use lib.Dec.{eqb, ltb}
+use mathlib.Core.Bool.{Bool, true, false, not}
+use mathlib.Core.Path.{_≡_, refl, sym, ap, _∙_}
 use lib.ListN.{length}
-use borrow.Author.Tests.{ltb-true, eq-eqb}
-use Rattle.machine.specs.Test.{_and_, _or_}
+use borrow.Author.Tests.{ltb-true, eq-eqb, not-true}
+use Rattle.machine.specs.Test.{_and_}
 use Rattle.machine.specs.Instruction.{Trace, instruction}
-use Rattle.machine.specs.Rules.{Stage, pre, IF, ID, EX, MEM, ST, WB, post, same, entry, isStore}
+use Rattle.machine.specs.Rules.{Stage, pre, IF, ID, EX, MEM, ST, WB, post, entry, isStore}
 use Rattle.machine.specs.State.{emptySlot, slot, younger, InTurn, Counted, Orderly}
 use Rattle.machine.specs.declared.Slot.{Slot}
 use Rattle.machine.specs.declared.State.{State}
-use Rattle.machine.proofs.Connectives.{clash, Value, passed, failed, value, not-passed, and-l, and-r, and-both, and-true, and-false, or-failed, and-failed-r, or-l}
+use Rattle.machine.proofs.Connectives.{clash, Value, passed, failed, value, and-l, and-r, and-both, and-true, or-failed, and-failed-r, or-l}
 use Rattle.machine.proofs.Stages.{eight, inside}
-use Rattle.machine.proofs.BySlots.{standing, waitsFor, holdsBack, heldBack, goes, occupied, storeInMEM, nextIn, moves-at, free-at, leaves, before, takes, arrives, newSlot, stepBySlots}
+use Rattle.machine.proofs.BySlots.{standing, waitsFor, holdsBack, heldBack, goes, occupied, storeInMEM, nextIn, moves-at, free-at, leaves, before, takes, arrives, stepBySlots}
 use Rattle.machine.proofs.Flow.{After, came, stayed, vacant, after-cycle, leaves-filled, bit, fetched-after, younger-after}
 
 module _ (trace : Trace) (s : State) (o : Orderly trace s) where
@@ -115,7 +114,7 @@ module _ (trace : Trace) (s : State) (o : Orderly trace s) where
 
   no-store : {new : Slot} → After trace s WB new → new .filled ≡ true → isStore (instruction trace (new .index) .kind) ≡ false
   unfolding arrives takes storeInMEM standing before
-  no-store (came a) f = not-passed _ (and-r _ _ a)
+  no-store (came a) f = not-true _ (and-r _ _ a)
   no-store (stayed a g l) f = o .noStore g
   no-store (vacant a e) f = clash f refl
 
