@@ -1,1 +1,13 @@
 pub mod Cases
+pub mod Connectives
+pub mod Stages
+pub mod Orderly
+pub mod Places
+pub mod Spots
+pub mod BySlots
+pub mod Ready
+pub mod Moving
+pub mod Flow
+pub mod StepOrderly
+pub mod Step
+pub mod Levels

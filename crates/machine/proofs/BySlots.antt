@@ -1,0 +1,172 @@
+-- One cycle by slots, which is what the code computes: who could move, who moves, and what each slot holds afterwards. An older instruction
+-- that holds another back stands in a slot, so the six slots are all that is looked at.
+use Prim.Native.Nat.{ℕ, zero, suc, _-_}
+use mathlib.Core.Bool.{Bool, true, false, not, cond}
+use mathlib.Core.Path.{_≡_, refl, ap}
+use lib.Dec.{ltb, eqb}
+use lib.ListN.{length}
+use Rattle.machine.specs.Test.{_and_, _or_}
+use Rattle.machine.specs.Instruction.{Kind, plain, load, store, branch, Instruction, Trace, instruction}
+use Rattle.machine.specs.Rules.{Stage, pre, IF, ID, EX, MEM, ST, WB, post, same, Place, shortOf, isLoad, isStore, isBranch, hits, reads, missesData, entry, budget}
+use Rattle.machine.specs.State.{emptySlot, slot}
+use Rattle.machine.specs.declared.Slot.{Slot}
+use Rattle.machine.specs.declared.State.{State}
+use Rattle.machine.proofs.Connectives.{clash}
+
+-- what stands in a stage to move on; in pre, the instruction to be fetched next
+unfoldable pub standing : Trace → State → Stage → Slot
+standing trace s pre = record { filled = ltb (s .fetched) (length trace); index = s .fetched; count = 0 }
+standing trace s IF = s .IF
+standing trace s ID = s .ID
+standing trace s EX = s .EX
+standing trace s MEM = s .MEM
+standing trace s ST = s .ST
+standing trace s WB = s .WB
+standing trace s post = emptySlot
+
+-- the place has yet to be reached up to which others may have to wait for an instruction of the kind
+unfoldable pub pending : Kind → Place → Bool
+pending plain p = false
+pending load p = shortOf p MEM 0
+pending store p = shortOf p ST 0
+pending branch p = shortOf p EX 0
+
+-- in the stage, the first instruction waits for the second while that is older and pending
+unfoldable pub waitsFor : Stage → Instruction → Instruction → Bool
+waitsFor pre i j = isBranch (j .kind) or not (hits (i .fetch))
+waitsFor IF i j = false
+waitsFor ID i j = isLoad (j .kind) and reads i (j .target)
+waitsFor EX i j = isStore (j .kind) and missesData i
+waitsFor MEM i j = false
+waitsFor ST i j = false
+waitsFor WB i j = false
+waitsFor post i j = false
+
+-- the slot of stage k holds instruction i back in its stage
+unfoldable pub holdsBack : Trace → Stage → ℕ → Stage → Slot → Bool
+holdsBack trace at i k held =
+    held .filled
+    and ltb (held .index) i
+    and (pending (instruction trace (held .index) .kind) (record { stage = k; count = held .count })
+    and waitsFor at (instruction trace i) (instruction trace (held .index)))
+
+unfoldable pub heldBack : Trace → State → Stage → ℕ → Bool
+heldBack trace s at i =
+    holdsBack trace at i IF (s .IF)
+    or holdsBack trace at i ID (s .ID)
+    or holdsBack trace at i EX (s .EX)
+    or holdsBack trace at i MEM (s .MEM)
+    or holdsBack trace at i ST (s .ST)
+    or holdsBack trace at i WB (s .WB)
+
+-- the stage's instruction moves if its next stage will be free
+unfoldable pub goes : Trace → State → Stage → Bool
+goes trace s k =
+    standing trace s k .filled and eqb (standing trace s k .count) 0 and not (heldBack trace s k (standing trace s k .index))
+
+unfoldable pub occupied : Trace → State → Stage → Bool
+occupied trace s k = standing trace s k .filled
+
+unfoldable pub storeInMEM : Trace → State → Bool
+storeInMEM trace s = isStore (instruction trace (s .MEM .index) .kind)
+
+-- the stage after another, where it is told whether MEM holds a store
+unfoldable pub nextIn : Bool → Stage → Stage
+nextIn inMEM pre = IF
+nextIn inMEM IF = ID
+nextIn inMEM ID = EX
+nextIn inMEM EX = MEM
+nextIn inMEM MEM = cond inMEM ST WB
+nextIn inMEM ST = post
+nextIn inMEM WB = post
+nextIn inMEM post = post
+
+-- "Moves" and "will be free" over these bits, with the budget of the rules.
+unfoldable mutual
+  pub movesIn : ℕ → (Stage → Bool) → (Stage → Bool) → Bool → Stage → Bool
+  movesIn zero going full inMEM k = false
+  movesIn (suc b) going full inMEM k = going k and freeIn b going full inMEM (nextIn inMEM k)
+
+  pub freeIn : ℕ → (Stage → Bool) → (Stage → Bool) → Bool → Stage → Bool
+  freeIn zero going full inMEM k = true
+  freeIn (suc b) going full inMEM k = same k post or (not (full k) or movesIn b going full inMEM k)
+
+unfoldable pub movesAt : (Stage → Bool) → (Stage → Bool) → Bool → Stage → Bool
+movesAt going full inMEM k = movesIn (budget k) going full inMEM k
+
+unfoldable pub freeAt : (Stage → Bool) → (Stage → Bool) → Bool → Stage → Bool
+freeAt going full inMEM k = freeIn (suc (budget k)) going full inMEM k
+
+into-last : (going full : Stage → Bool) (inMEM : Bool) → freeIn 3 going full inMEM (cond inMEM ST WB) ≡ freeAt going full inMEM (cond inMEM ST WB)
+unfolding freeAt budget
+into-last going full true = refl
+into-last going full false = refl
+
+-- the two as the code calls them
+module _ (going full : Stage → Bool) (inMEM : Bool) where
+  pub moves-at : (k : Stage) → same k post ≡ false → movesAt going full inMEM k ≡ going k and freeAt going full inMEM (nextIn inMEM k)
+  unfolding movesAt freeAt budget movesIn nextIn
+  moves-at pre e = refl
+  moves-at IF e = refl
+  moves-at ID e = refl
+  moves-at EX e = refl
+  moves-at MEM e = ap (λ (f : Bool). going MEM and f) (into-last going full inMEM)
+  moves-at ST e = refl
+  moves-at WB e = refl
+  moves-at post e = clash refl e
+
+  pub free-at : (k : Stage) → freeAt going full inMEM k ≡ same k post or (not (full k) or movesAt going full inMEM k)
+  unfolding movesAt freeAt freeIn
+  free-at k = refl
+
+-- whether the stage's instruction moves in this cycle
+unfoldable pub leaves : Trace → State → Stage → Bool
+leaves trace s k = movesAt (goes trace s) (occupied trace s) (storeInMEM trace s) k
+
+-- the stage from which an instruction comes into a stage; nothing comes into pre
+unfoldable pub before : Stage → Stage
+before pre = post
+before IF = pre
+before ID = IF
+before EX = ID
+before MEM = EX
+before ST = MEM
+before WB = MEM
+before post = post
+
+-- a store goes from MEM to ST, any other kind to WB
+unfoldable pub takes : Bool → Stage → Bool
+takes inMEM pre = false
+takes inMEM IF = true
+takes inMEM ID = true
+takes inMEM EX = true
+takes inMEM MEM = true
+takes inMEM ST = inMEM
+takes inMEM WB = not inMEM
+takes inMEM post = false
+
+unfoldable pub arrives : Trace → State → Stage → Bool
+arrives trace s k = leaves trace s (before k) and takes (storeInMEM trace s) k
+
+-- a slot after the cycle: what comes in, else what stays, its count less 1, else nothing
+unfoldable pub slotAfter : Bool → ℕ → ℕ → Bool → Slot → Slot
+slotAfter true index count gone old = record { filled = true; index = index; count = count }
+slotAfter false index count gone old =
+    cond (old .filled and not gone) (record { filled = true; index = old .index; count = old .count - 1 }) emptySlot
+
+unfoldable pub newSlot : Trace → State → Stage → Slot
+newSlot trace s k =
+    let coming = standing trace s (before k) .index in
+    slotAfter (arrives trace s k) coming (entry (instruction trace coming) k) (leaves trace s k) (slot s k)
+
+unfoldable pub stepBySlots : Trace → State → State
+stepBySlots trace s =
+    record {
+      fetched = cond (leaves trace s pre) (suc (s .fetched)) (s .fetched);
+      IF = newSlot trace s IF;
+      ID = newSlot trace s ID;
+      EX = newSlot trace s EX;
+      MEM = newSlot trace s MEM;
+      ST = newSlot trace s ST;
+      WB = newSlot trace s WB;
+    }

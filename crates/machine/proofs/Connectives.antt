@@ -1,0 +1,176 @@
+-- Laws of the shut connectives of tests. Each takes the tests that it is about as explicit arguments, so that a call is `and-l _ _ e`.
+use Prim.Native.Nat.{ℕ, zero, suc, _<_}
+use native.Mathlib.Omega.{arith}
+use mathlib.Core.Bool.{Bool, true, false, not, true≢false}
+use mathlib.Core.Path.{_≡_, refl, sym, ap, _∙_}
+use lib.Dec.{ltb, eqb}
+use borrow.Author.Tests.{ltb-true, ltb-false, eqb-true, eqb-false, not-true}
+use Rattle.machine.specs.Test.{_and_, _or_, every, none}
+
+-- a test does not both pass and fail
+pub clash {ℓ} : {A : Type ℓ} {b : Bool} → b ≡ true → b ≡ false → A
+clash t f = absurd (true≢false (sym t ∙ f))
+
+-- a test's value, kept as an equation
+pub data Value (b : Bool) : Type 0 where
+  passed : b ≡ true → Value b
+  failed : b ≡ false → Value b
+
+pub value : (b : Bool) → Value b
+value true = passed refl
+value false = failed refl
+
+-- two tests that pass together are equal
+pub both-ways : (a b : Bool) → (a ≡ true → b ≡ true) → (b ≡ true → a ≡ true) → a ≡ b
+both-ways true b f g = sym (f refl)
+both-ways false true f g = g refl
+both-ways false false f g = refl
+
+pub and-l : (a b : Bool) → a and b ≡ true → a ≡ true
+unfolding _and_
+and-l true b e = refl
+and-l false b e = e
+
+pub and-r : (a b : Bool) → a and b ≡ true → b ≡ true
+unfolding _and_
+and-r true b e = e
+and-r false b e = clash e refl
+
+pub and-both : (a b : Bool) → a ≡ true → b ≡ true → a and b ≡ true
+unfolding _and_
+and-both true b p q = q
+and-both false b p q = p
+
+pub and-failed-l : (a b : Bool) → a ≡ false → a and b ≡ false
+unfolding _and_
+and-failed-l true b e = clash refl e
+and-failed-l false b e = refl
+
+pub and-failed-r : (a b : Bool) → b ≡ false → a and b ≡ false
+unfolding _and_
+and-failed-r true b e = e
+and-failed-r false b e = refl
+
+pub or-l : (a b : Bool) → a ≡ true → a or b ≡ true
+unfolding _or_
+or-l true b e = refl
+or-l false b e = clash e refl
+
+pub or-r : (a b : Bool) → b ≡ true → a or b ≡ true
+unfolding _or_
+or-r true b e = refl
+or-r false b e = e
+
+pub or-failed : (a b : Bool) → a ≡ false → b ≡ false → a or b ≡ false
+unfolding _or_
+or-failed true b p q = p
+or-failed false b p q = q
+
+pub or-failed-l : (a b : Bool) → a or b ≡ false → a ≡ false
+unfolding _or_
+or-failed-l true b e = e
+or-failed-l false b e = refl
+
+pub or-failed-r : (a b : Bool) → a or b ≡ false → b ≡ false
+unfolding _or_
+or-failed-r true b e = clash refl e
+or-failed-r false b e = e
+
+-- what is left of a disjunction when its first part fails
+pub or-else : (a b : Bool) → a or b ≡ true → a ≡ false → b ≡ true
+unfolding _or_
+or-else true b e f = clash refl f
+or-else false b e f = e
+
+pub true-and : (a : Bool) → true and a ≡ a
+unfolding _and_
+true-and a = refl
+
+pub and-true : (a : Bool) → a and true ≡ a
+unfolding _and_
+and-true true = refl
+and-true false = refl
+
+pub and-false : (a : Bool) → a and false ≡ false
+unfolding _and_
+and-false true = refl
+and-false false = refl
+
+pub or-false : (a : Bool) → a or false ≡ a
+unfolding _or_
+or-false true = refl
+or-false false = refl
+
+-- a test that must pass only under a condition
+pub implied : (a b : Bool) → (a ≡ true → b ≡ true) → not a or b ≡ true
+unfolding _or_
+implied true b h = h refl
+implied false b h = refl
+
+pub implies : (a b : Bool) → not a or b ≡ true → a ≡ true → b ≡ true
+unfolding _or_
+implies true b e p = e
+implies false b e p = clash p refl
+
+-- the order of two numbers
+pub data Order (a b : ℕ) : Type 0 where
+  less : a < b → Order a b
+  equal : a ≡ b → Order a b
+  more : b < a → Order a b
+
+pub order : (a b : ℕ) → Order a b
+order a b = by (value (ltb a b)) (value (eqb a b))
+  where
+    by : Value (ltb a b) → Value (eqb a b) → Order a b
+    by (passed l) e = less (ltb-true a b l)
+    by (failed l) (passed e) = equal (eqb-true a b e)
+    by (failed l) (failed e) = more (let g = ltb-false a b l in let n : (a ≡ b → ⊥) = eqb-false a b e in omega arith)
+
+-- Every number below another.
+step : (test : ℕ → Bool) (n : ℕ) → ((k : ℕ) → k < n → test k ≡ true) → test n ≡ true → (k : ℕ) → Order k n → k < suc n → test k ≡ true
+step test n below here k (less l) h = below k l
+step test n below here k (equal e) h = rw e here
+step test n below here k (more g) h = absurd (omega arith)
+
+module _ (test : ℕ → Bool) where
+  pub every-at : (n : ℕ) → every test n ≡ true → (k : ℕ) → k < n → test k ≡ true
+  unfolding every
+  every-at zero e k h = absurd (omega arith)
+  every-at (suc n) e k h = step test n (every-at n (and-l _ _ e)) (and-r _ _ e) k (order k n) h
+
+  pub every-below : (n : ℕ) → ((k : ℕ) → k < n → test k ≡ true) → every test n ≡ true
+  unfolding every
+  every-below zero h = refl
+  every-below (suc n) h = and-both _ _ (every-below n (λ k l. h k (omega arith))) (h n (omega arith))
+
+  pub every-fails : (n k : ℕ) → k < n → test k ≡ false → every test n ≡ false
+  every-fails n k h e = by (value (every test n))
+    where
+      by : Value (every test n) → every test n ≡ false
+      by (passed p) = clash (every-at n p k h) e
+      by (failed f) = f
+
+pub none-at : (test : ℕ → Bool) (n : ℕ) → none test n ≡ true → (k : ℕ) → k < n → test k ≡ false
+unfolding none
+none-at test n e k h = not-true _ (every-at (λ k. not (test k)) n e k h)
+
+pub none-below : (test : ℕ → Bool) (n : ℕ) → ((k : ℕ) → k < n → test k ≡ false) → none test n ≡ true
+unfolding none
+none-below test n h = every-below (λ k. not (test k)) n (λ k l. ap not (h k l))
+
+pub none-fails : (test : ℕ → Bool) (n k : ℕ) → k < n → test k ≡ true → none test n ≡ false
+unfolding none
+none-fails test n k h e = every-fails (λ k. not (test k)) n k h (ap not e)
+
+-- two tests that nothing passes are one
+pub none-either : (a b : ℕ → Bool) (n : ℕ) → none a n and none b n ≡ none (λ k. a k or b k) n
+none-either a b n =
+    both-ways _ _
+    (λ e. none-below _ n (λ k h. or-failed _ _ (none-at a n (and-l _ _ e) k h) (none-at b n (and-r _ _ e) k h)))
+    (λ e. and-both _ _ (none-below a n (λ k h. or-failed-l _ _ (none-at _ n e k h))) (none-below b n (λ k h. or-failed-r _ _ (none-at _ n e k h))))
+
+-- a test that counts only under a condition
+pub none-unless : (c : Bool) (a : ℕ → Bool) (n : ℕ) → c or none a n ≡ none (λ k. not c and a k) n
+unfolding _and_ _or_
+none-unless true a n = sym (none-below _ n (λ k h. refl))
+none-unless false a n = refl
