@@ -10,4 +10,4 @@ pub mod Moving
 pub mod Flow
 pub mod StepOrderly
 pub mod Step
-pub mod Levels
+pub mod Masks
