@@ -87,11 +87,11 @@ or-r true b e = absurd (false≢true (sym e))
 or-r false b e = e
 
 -- how a number below a successor stands to the one below it
-data Last (k n : ℕ) : Type 0 where
+pub data Last (k n : ℕ) : Type 0 where
   before : k < n → Last k n
   at : k ≡ n → Last k n
 
-last : (k n : ℕ) → k < suc n → Last k n
+pub last : (k n : ℕ) → k < suc n → Last k n
 last zero zero h = at refl
 last zero (suc n) h = before (omega arith)
 last (suc k) zero h = absurd (omega arith)
@@ -99,7 +99,7 @@ last (suc k) (suc n) h = up (last k n (omega arith))
   where
     up : Last k n → Last (suc k) (suc n)
     up (before l) = before (omega arith)
-    up (at e) = at (ap suc e)
+    up (at e) = at (omega arith)
 
 pub every-passes : (test : ℕ → Bool) (n : ℕ) → ((k : ℕ) → k < n → test k ≡ true) → every test n ≡ true
 unfolding every
