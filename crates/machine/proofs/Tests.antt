@@ -55,6 +55,17 @@ unfolding _and_
 and-fails true b e p = e
 and-fails false b e p = absurd (false≢true p)
 
+-- a side that is decided goes
+pub and-left : (a b : Bool) → a ≡ true → a and b ≡ b
+unfolding _and_
+and-left true b e = refl
+and-left false b e = absurd (false≢true e)
+
+pub or-left : (a b : Bool) → a ≡ false → a or b ≡ b
+unfolding _or_
+or-left true b e = absurd (false≢true (sym e))
+or-left false b e = refl
+
 pub or-passes-l : (a b : Bool) → a ≡ true → a or b ≡ true
 unfolding _or_
 or-passes-l true b e = refl
@@ -184,3 +195,10 @@ same-is a b e =
 
 pub is-same : (a b : Stage) → a ≡ b → same a b ≡ true
 is-same a b e = same-mark a b ∙ eq-eqb (mark a) (mark b) (ap mark e)
+
+pub same-fails : (a b : Stage) → ¬ (a ≡ b) → same a b ≡ false
+same-fails a b h = pick (outcome (same a b))
+  where
+    pick : Outcome (same a b) → same a b ≡ false
+    pick (passes e) = absurd (h (same-is a b e))
+    pick (fails e) = e
