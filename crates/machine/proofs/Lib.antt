@@ -4,3 +4,6 @@ pub mod Greatest
 pub mod Schedule
 pub mod Levels
 pub mod Standing
+pub mod Derivation
+pub mod Readiness
+pub mod Moves

@@ -101,6 +101,13 @@ together b i j s e = pick (outcome (ltb s 5))
         let q = or-passes _ _ e p in
         late (eqb-true s 5 (and-l _ _ q)) (beq-is (b .lane i) (b .lane j) (and-r _ _ q))
 
+pub shares-sym : (b : Behaviour) (i j s : ℕ) → shares b i j s ≡ true → shares b j i s ≡ true
+shares-sym b i j s e = pick (together b i j s e)
+  where
+    pick : Together b i j s → shares b j i s ≡ true
+    pick (early l) = shares-early b j i s l
+    pick (late f g) = subst (λ (x : ℕ). shares b j i x ≡ true) (sym f) (shares-last b j i (sym g))
+
 -- The bounds.
 pub starts : (b : Behaviour) (i : ℕ) → enters b i 0 ≡ 0
 unfolding enters entering
@@ -126,13 +133,14 @@ pub wait : (b : Behaviour) (i j s : ℕ) → j < i → done b j (b .until i s j)
 unfolding waitTerm done
 wait b i j s l = rw (enters-suc b i s) (le-greatest (greatest (done b i s) (shareTerm b (enters b) i s) i) (waitTerm b (enters b) i s) i j l)
 
-pub least : (b : Behaviour) (i s a m : ℕ) →
+-- with something added, as schedules that differ by what was added are compared without subtraction
+pub least-plus : (b : Behaviour) (i s a m : ℕ) →
     done b i s + a ≤ m →
     ((j : ℕ) → j < i → shares b i j (suc s) ≡ true → enters b j (suc (suc s)) + a ≤ m) →
     ((j : ℕ) → j < i → done b j (b .until i s j) + a ≤ m) →
     enters b i (suc s) + a ≤ m
 unfolding shareTerm waitTerm done
-least b i s a m p q r =
+least-plus b i s a m p q r =
     rw (enters-suc b i s)
     (greatest-le (greatest (done b i s) (shareTerm b (enters b) i s) i) (waitTerm b (enters b) i s) i a m
     (greatest-le (done b i s) (shareTerm b (enters b) i s) i a m p (λ j l. pick j l (outcome (shares b i j (suc s)))))
@@ -141,3 +149,13 @@ least b i s a m p q r =
     pick : (j : ℕ) → j < i → Outcome (shares b i j (suc s)) → shareTerm b (enters b) i s j + a ≤ m
     pick j l (passes e) = rw e (q j l e)
     pick j l (fails e) = rw e (omega arith)
+
+pub least :
+    (b : Behaviour) (i s m : ℕ) →
+    done b i s ≤ m →
+    ((j : ℕ) → j < i → shares b i j (suc s) ≡ true → enters b j (suc (suc s)) ≤ m) →
+    ((j : ℕ) → j < i → done b j (b .until i s j) ≤ m) →
+    enters b i (suc s) ≤ m
+least b i s m p q r =
+    let h = least-plus b i s 0 m (omega arith) (λ j l e. let k = q j l e in omega arith) (λ j l. let k = r j l in omega arith) in
+    omega arith

@@ -7,7 +7,7 @@ use native.Mathlib.Omega.{arith}
 use lib.Dec.{leb, ltb}
 use borrow.Author.Tests.{leb-true, leb-false, ltb-true, ltb-false, lt-ltb, le-ltb}
 use Rattle.machine.specs.Test.{_and_, _or_}
-use Rattle.machine.specs.Rules.{Stage, pre, rank, same, Place, further, shortOf}
+use Rattle.machine.specs.Rules.{Stage, pre, rank, same, Place, Places, further, shortOf}
 use Rattle.machine.proofs.Tests.{Outcome, passes, fails, outcome, never, Last, before, at, last, is-same, same-fails, and-fails-l, and-passes, or-passes-l, or-passes-r, or-fails, or-left, and-left}
 use Rattle.machine.proofs.Schedule.{Behaviour, enters, done, starts, own}
 use Rattle.machine.proofs.Levels.{Tri, less, equal, more, tri, stageAt, rank-stage, same-level}
@@ -105,9 +105,9 @@ left t e c l = pick (outcome (ltb t (e + c)))
     pick (passes p) = let q = ltb-true t (e + c) p in lt-ltb 0 (c - (t - e)) (omega arith) ∙ sym p
     pick (fails p) = let q = ltb-false t (e + c) p in le-ltb 0 (c - (t - e)) (omega arith) ∙ sym p
 
-pub short-of : {b : Behaviour} {t j l : ℕ} → Stands b t j l → (h : ℕ) → h ≤ 6 → shortOf (standing b t j l) (stageAt (b .lane j) h) 0 ≡ isShort b t j h
+short-of-level : {b : Behaviour} {t j l : ℕ} → Stands b t j l → (h : ℕ) → h ≤ 6 → shortOf (standing b t j l) (stageAt (b .lane j) h) 0 ≡ isShort b t j h
 unfolding shortOf further standing isShort done
-short-of {b} {t} {j} {l} st h m = pick (tri l h)
+short-of-level {b} {t} {j} {l} st h m = pick (tri l h)
   where
     lane : Bool
     lane = b .lane j
@@ -131,7 +131,28 @@ short-of {b} {t} {j} {l} st h m = pick (tri l h)
         or-fails before-h _ (order ∙ le-ltb l h (omega arith)) (and-fails-l _ _ (same-fails (stageAt lane h) (stageAt lane l) (λ e. let p = same-level lane lane h l m (st .level) (is-same (stageAt lane h) (stageAt lane l) e) in omega arith)))
         ∙ sym (le-ltb t (enters b j h + b .count j h) (let p = enters-before b j h l k in let q = st .entered in omega arith))
 
-pub in-pre : {b : Behaviour} {t j l : ℕ} → Stands b t j l → same (standing b t j l .stage) pre ≡ ltb t (enters b j 1)
+in-pre-level : {b : Behaviour} {t j l : ℕ} → Stands b t j l → same (standing b t j l .stage) pre ≡ ltb t (enters b j 1)
 unfolding standing
-in-pre {b} {t} {j} {l = zero} st = sym (lt-ltb t (enters b j 1) (not-yet st 1 (omega arith) (omega arith)))
-in-pre {b} {t} {j} {l = suc l} st = same-fails (stageAt (b .lane j) (suc l)) pre (λ e. let p = same-level (b .lane j) true (suc l) 0 (st .level) (omega arith) (is-same (stageAt (b .lane j) (suc l)) pre e) in omega arith) ∙ sym (le-ltb t (enters b j 1) (already st 1 (omega arith)))
+in-pre-level {b} {t} {j} {l = zero} st = sym (lt-ltb t (enters b j 1) (not-yet st 1 (omega arith) (omega arith)))
+in-pre-level {b} {t} {j} {l = suc l} st = same-fails (stageAt (b .lane j) (suc l)) pre (λ e. let p = same-level (b .lane j) true (suc l) 0 (st .level) (omega arith) (is-same (stageAt (b .lane j) (suc l)) pre e) in omega arith) ∙ sym (le-ltb t (enters b j 1) (already st 1 (omega arith)))
+
+-- where the schedule has instruction j stand
+unfoldable pub scheduled : Behaviour → ℕ → Places
+scheduled b t j = standing b t j (levelAt (enters b j) t)
+
+pub scheduled-at : {b : Behaviour} {t i s : ℕ} → Stands b t i s → scheduled b t i ≡ standing b t i s
+unfolding scheduled
+scheduled-at {b} {t} {i} {s} st = ap (standing b t i) (stands-once (stands b t i) st)
+
+pub short-of : (b : Behaviour) (t j h : ℕ) → h ≤ 6 → shortOf (scheduled b t j) (stageAt (b .lane j) h) 0 ≡ isShort b t j h
+unfolding scheduled
+short-of b t j h l = short-of-level (stands b t j) h l
+
+pub in-pre : (b : Behaviour) (t j : ℕ) → same (scheduled b t j .stage) pre ≡ ltb t (enters b j 1)
+unfolding scheduled
+in-pre b t j = in-pre-level (stands b t j)
+
+-- nothing is short of pre
+pub never-short : (b : Behaviour) (t j : ℕ) → isShort b t j 0 ≡ false
+unfolding isShort
+never-short b t j = let p = starts b j in let q = b .count-in-pre j in le-ltb t (enters b j 0 + b .count j 0) (omega arith)

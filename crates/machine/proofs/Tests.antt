@@ -24,6 +24,12 @@ pub not-passes : (b : Bool) → b ≡ false → not b ≡ true
 not-passes true e = sym e
 not-passes false e = refl
 
+-- tests that tell each other are equal
+pub equal-tests : (a b : Bool) → (a ≡ true → b ≡ true) → (b ≡ true → a ≡ true) → a ≡ b
+equal-tests true b f g = sym (f refl)
+equal-tests false true f g = g refl
+equal-tests false false f g = refl
+
 pub and-passes : (a b : Bool) → a ≡ true → b ≡ true → a and b ≡ true
 unfolding _and_
 and-passes true b p q = q
@@ -81,6 +87,21 @@ pub or-passes : (a b : Bool) → a or b ≡ true → a ≡ false → b ≡ true
 unfolding _or_
 or-passes true b e f = absurd (false≢true (sym f))
 or-passes false b e f = e
+
+pub and-true : (a : Bool) → a and true ≡ a
+unfolding _and_
+and-true true = refl
+and-true false = refl
+
+pub and-false : (a : Bool) → a and false ≡ false
+unfolding _and_
+and-false true = refl
+and-false false = refl
+
+pub or-false : (a : Bool) → a or false ≡ a
+unfolding _or_
+or-false true = refl
+or-false false = refl
 
 pub or-fails : (a b : Bool) → a ≡ false → b ≡ false → a or b ≡ false
 unfolding _or_
@@ -140,6 +161,33 @@ pub every-same : (f g : ℕ → Bool) (n : ℕ) → ((k : ℕ) → k < n → f k
 unfolding every
 every-same f g zero h = refl
 every-same f g (suc n) h = rw (every-same f g n (λ k l. h k (omega arith)), h n (omega arith))
+
+pub none-same : (f g : ℕ → Bool) (n : ℕ) → ((k : ℕ) → k < n → f k ≡ g k) → none f n ≡ none g n
+unfolding none
+none-same f g n h = every-same (λ k. not (f k)) (λ k. not (g k)) n (λ k l. ap not (h k l))
+
+pub none-false : (n : ℕ) → none (λ k. false) n ≡ true
+none-false n = none-passes (λ k. false) n (λ k l. refl)
+
+-- several tests of none are one
+pub none-or : (f g : ℕ → Bool) (n : ℕ) → none f n and none g n ≡ none (λ k. f k or g k) n
+none-or f g n =
+    equal-tests _ _
+    (λ e. none-passes (λ k. f k or g k) n (λ k l. or-fails _ _ (none-at f n (and-l _ _ e) k l) (none-at g n (and-r _ _ e) k l)))
+    (λ e.
+    and-passes _ _
+    (none-passes f n (λ k l. or-l _ _ (none-at (λ k. f k or g k) n e k l)))
+    (none-passes g n (λ k l. or-r _ _ (none-at (λ k. f k or g k) n e k l))))
+
+pub or-none : (b : Bool) (f : ℕ → Bool) (n : ℕ) → b or none f n ≡ none (λ k. not b and f k) n
+unfolding _and_ _or_
+or-none true f n = sym (none-false n)
+or-none false f n = refl
+
+pub not-or-none : (b : Bool) (f : ℕ → Bool) (n : ℕ) → not b or none f n ≡ none (λ k. b and f k) n
+unfolding _and_ _or_
+not-or-none true f n = refl
+not-or-none false f n = sym (none-false n)
 
 -- The stages, each told from every other by its place in the list
 each : (P : Stage → Type 0) → P pre → P IF → P ID → P EX → P MEM → P ST → P WB → P post → (s : Stage) → P s

@@ -1,0 +1,185 @@
+-- The rules' readiness is the schedule's waiting: where the older instructions stand as the schedule says, an instruction at a level is ready
+-- exactly when each of them has come as far as it waits for. Every rule is first one test of each older instruction.
+use Prim.Native.Nat.{ℕ, zero, suc, _+_, _≤_, _<_}
+use mathlib.Core.Bool.{Bool, true, false, not}
+use mathlib.Core.Path.{_≡_, refl, sym, ap, subst, _∙_}
+use native.Mathlib.Omega.{arith}
+use lib.Dec.{ltb}
+use borrow.Author.Tests.{ltb-false, le-ltb}
+use Rattle.machine.specs.Test.{_and_, _or_, none}
+use Rattle.machine.specs.Instruction.{Kind, plain, load, store, branch, Instruction, Trace, instruction}
+use Rattle.machine.specs.Rules.{pre, EX, MEM, ST, same, Place, Places, shortOf, isLoad, isStore, isBranch, hits, noOlder, reads, missesData, readyIn}
+use Rattle.machine.proofs.Tests.{Outcome, passes, fails, outcome, and-true, and-false, and-fails-l, or-l, or-r, or-false, or-fails, none-at, none-passes, none-same, none-false, none-or, or-none, not-or-none}
+use Rattle.machine.proofs.Schedule.{Behaviour, enters, done}
+use Rattle.machine.proofs.Levels.{stageAt}
+use Rattle.machine.proofs.Standing.{scheduled, isShort, short-of, in-pre, never-short}
+use Rattle.machine.proofs.Derivation.{waitsInPre, waitsInID, waitsInEX, waits, behaviour}
+
+-- one test of each older instruction that says the same as the rules' readiness
+heldInPre : Instruction → Instruction → Place → Bool
+heldInPre i older p =
+    same (p .stage) pre
+    or (isBranch (older .kind) and shortOf p EX 0)
+    or (not (hits (i .fetch)) and ((isLoad (older .kind) and shortOf p MEM 0) or (isStore (older .kind) and shortOf p ST 0)))
+
+held : ℕ → Instruction → Instruction → Place → Bool
+unfolding heldInPre
+held zero i older p = heldInPre i older p
+held (suc zero) i older p = false
+held (suc (suc zero)) i older p = isLoad (older .kind) and shortOf p MEM 0 and reads i (older .target)
+held (suc (suc (suc zero))) i older p = missesData i and (isStore (older .kind) and shortOf p ST 0)
+held (suc (suc (suc (suc s)))) i older p = false
+
+gather : (h : Bool) (a c l s : ℕ → Bool) (n : ℕ) →
+    none a n and none c n and (h or (none l n and none s n)) ≡ none (λ k. a k or c k or (not h and (l k or s k))) n
+gather h a c l s n = rw (none-or a c n, none-or l s n, or-none h (λ k. l k or s k) n) (none-or (λ k. a k or c k) (λ k. not h and (l k or s k)) n)
+
+ready-held : (lane : Bool) (s : ℕ) (trace : Trace) (places : Places) (i : ℕ) →
+    readyIn (stageAt lane s) trace places i ≡ none (λ j. held s (instruction trace i) (instruction trace j) (places j)) i
+unfolding readyIn noOlder held
+ready-held lane zero trace places i =
+    gather (hits (instruction trace i .fetch))
+    (λ j. same (places j .stage) pre)
+    (λ j. isBranch (instruction trace j .kind) and shortOf (places j) EX 0)
+    (λ j. isLoad (instruction trace j .kind) and shortOf (places j) MEM 0)
+    (λ j. isStore (instruction trace j .kind) and shortOf (places j) ST 0)
+    i
+ready-held lane (suc zero) trace places i = sym (none-false i)
+ready-held lane (suc (suc zero)) trace places i = refl
+ready-held lane (suc (suc (suc zero))) trace places i =
+    not-or-none (missesData (instruction trace i)) (λ j. isStore (instruction trace j .kind) and shortOf (places j) ST 0) i
+ready-held lane (suc (suc (suc (suc zero)))) trace places i = sym (none-false i)
+ready-held true (suc (suc (suc (suc (suc zero))))) trace places i = sym (none-false i)
+ready-held false (suc (suc (suc (suc (suc zero))))) trace places i = sym (none-false i)
+ready-held lane (suc (suc (suc (suc (suc (suc s)))))) trace places i = sym (none-false i)
+
+-- such a test is one of being short of the level to wait for
+module _ (late : ℕ → Bool) (never : late 0 ≡ false) where
+  held-pre : (k : Kind) (fetchHits x : Bool) →
+      x or (isBranch k and late 3) or (not fetchHits and ((isLoad k and late 4) or (isStore k and late 5))) ≡ x or late (waitsInPre k fetchHits)
+  unfolding _and_ _or_ waitsInPre
+  held-pre plain true x = simp (or-false, never)
+  held-pre plain false x = simp (or-false, never)
+  held-pre load true x = simp (or-false, never)
+  held-pre load false x = simp (or-false)
+  held-pre store true x = simp (or-false, never)
+  held-pre store false x = simp (or-false)
+  held-pre branch true x = simp (or-false)
+  held-pre branch false x = simp (or-false)
+
+  held-ID : (k : Kind) (r : Bool) → isLoad k and late 4 and r ≡ late (waitsInID k r)
+  unfolding _and_ waitsInID
+  held-ID plain r = sym never
+  held-ID load true = and-true (late 4)
+  held-ID load false = and-false (late 4) ∙ sym never
+  held-ID store r = sym never
+  held-ID branch r = sym never
+
+  held-EX : (k : Kind) (m : Bool) → m and (isStore k and late 5) ≡ late (waitsInEX k m)
+  unfolding _and_ waitsInEX
+  held-EX plain true = sym never
+  held-EX plain false = sym never
+  held-EX load true = sym never
+  held-EX load false = sym never
+  held-EX store true = refl
+  held-EX store false = sym never
+  held-EX branch true = sym never
+  held-EX branch false = sym never
+
+-- an instruction in pre also waits for older ones to leave pre
+inPre : ℕ → Bool → Bool
+inPre zero x = x
+inPre (suc s) x = false
+
+store-short : (trace : Trace) (t j : ℕ) →
+    let b = behaviour trace in
+    let kind = instruction trace j .kind in
+    isStore kind and shortOf (scheduled b t j) ST 0 ≡ isStore kind and isShort b t j 5
+unfolding behaviour
+store-short trace t j = pick (outcome (isStore (instruction trace j .kind)))
+  where
+    pick : Outcome (isStore (instruction trace j .kind)) →
+        isStore (instruction trace j .kind) and shortOf (scheduled (behaviour trace) t j) ST 0
+        ≡ isStore (instruction trace j .kind) and isShort (behaviour trace) t j 5
+    pick (passes e) = ap (λ (x : Bool). isStore (instruction trace j .kind) and x)
+        (subst (λ (x : Bool). shortOf (scheduled (behaviour trace) t j) (stageAt x 5) 0 ≡ isShort (behaviour trace) t j 5) e
+        (short-of (behaviour trace) t j 5 (omega arith)))
+    pick (fails e) = rw e (and-fails-l _ _ refl ∙ sym (and-fails-l _ _ refl))
+
+held-short : (trace : Trace) (t j s : ℕ) (i : Instruction) →
+    let b = behaviour trace in
+    held s i (instruction trace j) (scheduled b t j) ≡ inPre s (ltb t (enters b j 1)) or isShort b t j (waits s i (instruction trace j))
+unfolding held inPre waits behaviour _or_
+held-short trace t j zero i =
+    let b = behaviour trace in
+    let branches : shortOf (scheduled b t j) EX 0 ≡ isShort b t j 3 = short-of b t j 3 (omega arith) in
+    let loads : shortOf (scheduled b t j) MEM 0 ≡ isShort b t j 4 = short-of b t j 4 (omega arith) in
+    rw (in-pre b t j, branches, loads, store-short trace t j)
+    (held-pre (isShort b t j) (never-short b t j) (instruction trace j .kind) (hits (i .fetch)) (ltb t (enters b j 1)))
+held-short trace t j (suc zero) i = sym (never-short (behaviour trace) t j)
+held-short trace t j (suc (suc zero)) i =
+    let b = behaviour trace in
+    let loads : shortOf (scheduled b t j) MEM 0 ≡ isShort b t j 4 = short-of b t j 4 (omega arith) in
+    rw loads (held-ID (isShort b t j) (never-short b t j) (instruction trace j .kind) (reads i (instruction trace j .target)))
+held-short trace t j (suc (suc (suc zero))) i =
+    let b = behaviour trace in
+    rw (store-short trace t j) (held-EX (isShort b t j) (never-short b t j) (instruction trace j .kind) (missesData i))
+held-short trace t j (suc (suc (suc (suc s)))) i = sym (never-short (behaviour trace) t j)
+
+-- Readiness, where the places below n are the schedule's, says that the older ones have come as far as the instruction waits for.
+behindOlder : Trace → ℕ → ℕ → ℕ → ℕ → Bool
+behindOlder trace t i s j =
+    let b = behaviour trace in
+    inPre s (ltb t (enters b j 1)) or isShort b t j (b .until i s j)
+
+ready-schedule : (trace : Trace) (t : ℕ) (places : Places) (i s : ℕ) →
+    ((j : ℕ) → j < i → places j ≡ scheduled (behaviour trace) t j) →
+    readyIn (stageAt (behaviour trace .lane i) s) trace places i ≡ none (behindOlder trace t i s) i
+unfolding behindOlder behaviour
+ready-schedule trace t places i s h =
+    ready-held (behaviour trace .lane i) s trace places i
+    ∙ none-same _ _ i (λ j l. ap (held s (instruction trace i) (instruction trace j)) (h j l) ∙ held-short trace t j s (instruction trace i))
+
+pub ready-waits : (trace : Trace) (t : ℕ) (places : Places) (i s : ℕ) →
+    ((j : ℕ) → j < i → places j ≡ scheduled (behaviour trace) t j) →
+    readyIn (stageAt (behaviour trace .lane i) s) trace places i ≡ true →
+    (j : ℕ) →
+    j < i →
+    done (behaviour trace) j (behaviour trace .until i s j) ≤ suc t
+unfolding behindOlder isShort done
+ready-waits trace t places i s h e j l =
+    let b = behaviour trace in
+    let p = or-r _ _ (none-at (behindOlder trace t i s) i (sym (ready-schedule trace t places i s h) ∙ e) j l) in
+    let q = ltb-false t (enters b j (b .until i s j) + b .count j (b .until i s j)) p in
+    omega arith
+
+pub ready-leaves-pre : (trace : Trace) (t : ℕ) (places : Places) (i : ℕ) →
+    ((j : ℕ) → j < i → places j ≡ scheduled (behaviour trace) t j) →
+    readyIn pre trace places i ≡ true →
+    (j : ℕ) →
+    j < i →
+    enters (behaviour trace) j 1 ≤ t
+unfolding behindOlder inPre
+ready-leaves-pre trace t places i h e j l =
+    ltb-false t (enters (behaviour trace) j 1) (or-l _ _ (none-at (behindOlder trace t i 0) i (sym (ready-schedule trace t places i 0 h) ∙ e) j l))
+
+first-fails : (s : ℕ) (x : Bool) → (s ≡ 0 → x ≡ false) → inPre s x ≡ false
+unfolding inPre
+first-fails zero x h = h refl
+first-fails (suc s) x h = refl
+
+pub waits-ready : (trace : Trace) (t : ℕ) (places : Places) (i s : ℕ) →
+    ((j : ℕ) → j < i → places j ≡ scheduled (behaviour trace) t j) →
+    ((j : ℕ) → j < i → done (behaviour trace) j (behaviour trace .until i s j) ≤ suc t) →
+    ((j : ℕ) → j < i → s ≡ 0 → enters (behaviour trace) j 1 ≤ t) →
+    readyIn (stageAt (behaviour trace .lane i) s) trace places i ≡ true
+unfolding behindOlder isShort done
+waits-ready trace t places i s h w first =
+    let b = behaviour trace in
+    ready-schedule trace t places i s h
+    ∙ none-passes (behindOlder trace t i s) i
+    (λ j l.
+    let c = w j l in
+    or-fails _ _
+    (first-fails s (ltb t (enters b j 1)) (λ z. le-ltb t (enters b j 1) (first j l z)))
+    (le-ltb t (enters b j (b .until i s j) + b .count j (b .until i s j)) (omega arith)))
