@@ -7,3 +7,4 @@ pub mod Standing
 pub mod Derivation
 pub mod Readiness
 pub mod Moves
+pub mod Bridge

@@ -18,7 +18,7 @@ use Rattle.machine.proofs.Derivation.{behaviour}
 use Rattle.machine.proofs.Readiness.{ready-waits, ready-leaves-pre, waits-ready}
 
 -- the budget of moves at d levels from post
-pub double : ℕ → ℕ
+unfoldable pub double : ℕ → ℕ
 double zero = 0
 double (suc d) = suc (suc (double d))
 
@@ -28,15 +28,15 @@ double-is zero = refl
 double-is (suc d) = let h = double-is d in omega arith
 
 module _ (trace : Trace) (t : ℕ) (places : Places) (described : (j : ℕ) → j < length trace → places j ≡ scheduled (behaviour trace) t j) where
-  stage-of : {i s : ℕ} → i < length trace → Stands (behaviour trace) t i s → places i .stage ≡ stageAt (behaviour trace .lane i) s
+  pub stage-of : {i s : ℕ} → i < length trace → Stands (behaviour trace) t i s → places i .stage ≡ stageAt (behaviour trace .lane i) s
   unfolding standing
   stage-of {i} {s} l st = ap (λ (p : Place). p .stage) (described i l ∙ scheduled-at st)
 
-  count-of : {i s : ℕ} → i < length trace → Stands (behaviour trace) t i s → places i .count ≡ behaviour trace .count i s - (t - enters (behaviour trace) i s)
+  pub count-of : {i s : ℕ} → i < length trace → Stands (behaviour trace) t i s → places i .count ≡ behaviour trace .count i s - (t - enters (behaviour trace) i s)
   unfolding standing
   count-of {i} {s} l st = ap (λ (p : Place). p .count) (described i l ∙ scheduled-at st)
 
-  next-of : {i s : ℕ} → i < length trace → s < 6 → Stands (behaviour trace) t i s → next (instruction trace i .kind) (places i .stage) ≡ stageAt (behaviour trace .lane i) (suc s)
+  pub next-of : {i s : ℕ} → i < length trace → s < 6 → Stands (behaviour trace) t i s → next (instruction trace i .kind) (places i .stage) ≡ stageAt (behaviour trace .lane i) (suc s)
   unfolding behaviour
   next-of {i} {s} l m st = ap (next (instruction trace i .kind)) (stage-of l st) ∙ next-stage (instruction trace i .kind) s m
 
@@ -88,7 +88,7 @@ module _ (trace : Trace) (t : ℕ) (places : Places) (described : (j : ℕ) → 
       pick (equal f) = at-it (subst (Stands (behaviour trace) t j) f (stands (behaviour trace) t j))
       pick (more k) = let p = already (stands (behaviour trace) t j) (suc (suc s)) k in omega arith
 
-  moves-enters : (d i s : ℕ) → i < length trace → Stands (behaviour trace) t i s → s + d ≡ 6 → movesWithin (double d) trace places i ≡ true → enters (behaviour trace) i (suc s) ≤ suc t
+  pub moves-enters : (d i s : ℕ) → i < length trace → Stands (behaviour trace) t i s → s + d ≡ 6 → movesWithin (double d) trace places i ≡ true → enters (behaviour trace) i (suc s) ≤ suc t
   unfolding movesWithin double ready done
   moves-enters zero i s l st e m = never m refl
   moves-enters (suc d) i s l st e m =
@@ -170,7 +170,7 @@ module _ (trace : Trace) (t : ℕ) (places : Places) (described : (j : ℕ) → 
   post-free i s e =
       or-passes-l _ _ (subst (λ (x : ℕ). same (stageAt (behaviour trace .lane i) (suc x)) post ≡ true) (sym e) (is-same post post refl))
 
-  enters-moves : (d i s : ℕ) → i < length trace → Stands (behaviour trace) t i s → s + suc d ≡ 6 → enters (behaviour trace) i (suc s) ≤ suc t → movesWithin (double (suc d)) trace places i ≡ true
+  pub enters-moves : (d i s : ℕ) → i < length trace → Stands (behaviour trace) t i s → s + suc d ≡ 6 → enters (behaviour trace) i (suc s) ≤ suc t → movesWithin (double (suc d)) trace places i ≡ true
   unfolding double
   enters-moves zero i s l st e m = can-move 1 i s l st (omega arith) m (post-free i s (omega arith))
   enters-moves (suc d) i s l st e m =
