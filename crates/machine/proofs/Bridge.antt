@@ -7,9 +7,10 @@ use native.Mathlib.Omega.{arith}
 use lib.ListN.{length}
 use Rattle.machine.specs.Instruction.{Instruction, Trace, instruction}
 use Rattle.machine.specs.Rules.{Stage, rank, Place, Places, next, entry, budget, movesWithin, moves, cycle, allPre, after}
-use Rattle.machine.proofs.Tests.{Outcome, passes, fails, outcome, never, Last, before, at, last}
+use Rattle.machine.proofs.Numbers.{Tri, less, equal, more, tri, Last, before, at, last}
+use Rattle.machine.proofs.Tests.{Outcome, passes, fails, outcome, never}
 use Rattle.machine.proofs.Schedule.{Behaviour, enters, done, starts, own}
-use Rattle.machine.proofs.Levels.{Tri, less, equal, more, tri, stageAt, rank-stage}
+use Rattle.machine.proofs.Levels.{stageAt, rank-stage}
 use Rattle.machine.proofs.Standing.{Stands, stands, levelAt, standing, scheduled, scheduled-at}
 use Rattle.machine.proofs.Derivation.{behaviour, countAt}
 use Rattle.machine.proofs.Moves.{double, double-is, stage-of, count-of, next-of, moves-enters, enters-moves}

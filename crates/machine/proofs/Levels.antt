@@ -5,25 +5,9 @@ use mathlib.Core.Path.{_≡_, refl, sym, subst, ap, _∙_}
 use native.Mathlib.Omega.{arith}
 use Rattle.machine.specs.Instruction.{Kind, plain, load, store, branch}
 use Rattle.machine.specs.Rules.{Stage, pre, IF, ID, EX, MEM, ST, WB, post, next, rank, same, isStore}
-use Rattle.machine.proofs.Tests.{Last, before, at, last, same-is, is-same}
+use Rattle.machine.proofs.Numbers.{Last, before, at, last}
+use Rattle.machine.proofs.Tests.{same-is, is-same}
 use Rattle.machine.proofs.Schedule.{Behaviour, shares, Together, early, late, together, shares-early, shares-last}
-
--- the order of two numbers
-pub data Tri (a c : ℕ) : Type 0 where
-  less : a < c → Tri a c
-  equal : a ≡ c → Tri a c
-  more : c < a → Tri a c
-
-pub tri : (a c : ℕ) → Tri a c
-tri zero zero = equal refl
-tri zero (suc c) = less (omega arith)
-tri (suc a) zero = more (omega arith)
-tri (suc a) (suc c) = up (tri a c)
-  where
-    up : Tri a c → Tri (suc a) (suc c)
-    up (less l) = less (omega arith)
-    up (equal e) = equal (ap suc e)
-    up (more l) = more (omega arith)
 
 -- the stage of an instruction at a level; ST is the last one of a store's lane
 abbrev pub stageAt : Bool → ℕ → Stage

@@ -1,6 +1,6 @@
 pub mod Cases
+pub mod Numbers
 pub mod Tests
-pub mod Greatest
 pub mod Schedule
 pub mod Levels
 pub mod Standing
@@ -8,3 +8,5 @@ pub mod Derivation
 pub mod Readiness
 pub mod Moves
 pub mod Bridge
+pub mod Bounds
+pub mod Finish

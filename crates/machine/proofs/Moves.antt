@@ -10,9 +10,10 @@ use borrow.Author.Tests.{eqb-true, eq-eqb}
 use Rattle.machine.specs.Test.{_and_, _or_, every}
 use Rattle.machine.specs.Instruction.{Trace, instruction}
 use Rattle.machine.specs.Rules.{Stage, post, next, same, Place, Places, readyIn, ready, movesWithin, willBeFreeWithin}
+use Rattle.machine.proofs.Numbers.{Tri, less, equal, more, tri}
 use Rattle.machine.proofs.Tests.{Outcome, passes, fails, outcome, never, not-passes, and-passes, and-l, and-r, or-passes-l, or-passes-r, or-passes, every-at, every-passes, is-same, same-fails}
 use Rattle.machine.proofs.Schedule.{Behaviour, shares, Together, early, late, together, shares-early, shares-sym, enters, done, own, share, wait, least}
-use Rattle.machine.proofs.Levels.{Tri, less, equal, more, tri, stageAt, same-level, next-stage, shares-same, same-shares}
+use Rattle.machine.proofs.Levels.{stageAt, same-level, next-stage, shares-same, same-shares}
 use Rattle.machine.proofs.Standing.{Stands, stands, levelAt, standing, scheduled, scheduled-at, already, not-yet}
 use Rattle.machine.proofs.Derivation.{behaviour}
 use Rattle.machine.proofs.Readiness.{ready-waits, ready-leaves-pre, waits-ready}

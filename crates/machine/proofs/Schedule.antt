@@ -7,8 +7,8 @@ use native.Mathlib.Omega.{arith}
 use lib.Dec.{ltb, eqb}
 use borrow.Author.Tests.{lt-ltb, le-ltb, ltb-true, eq-eqb, ne-eqb, eqb-true}
 use Rattle.machine.specs.Test.{_and_, _or_}
-use Rattle.machine.proofs.Tests.{Outcome, passes, fails, outcome, Last, before, at, last, and-l, and-r, and-passes, or-passes-l, or-passes-r, or-passes}
-use Rattle.machine.proofs.Greatest.{greatest, base-greatest, le-greatest, greatest-le, greatest-same}
+use Rattle.machine.proofs.Tests.{Outcome, passes, fails, outcome, and-l, and-r, and-passes, or-passes-l, or-passes-r, or-passes}
+use Rattle.machine.proofs.Numbers.{Last, before, at, last, greatest, base-greatest, le-greatest, greatest-le, greatest-same}
 
 -- What the instructions of a trace do: the entry count of an instruction at a level; whether its last stage is ST; and the level at which an
 -- older instruction j must stand with count 0 before instruction i, at a level, is ready. Level 0 stands for not waiting: nothing is short of it.

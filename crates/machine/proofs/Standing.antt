@@ -5,12 +5,13 @@ use mathlib.Core.Bool.{Bool, true, false, cond}
 use mathlib.Core.Path.{_≡_, refl, sym, subst, ap, _∙_}
 use native.Mathlib.Omega.{arith}
 use lib.Dec.{leb, ltb}
-use borrow.Author.Tests.{leb-true, leb-false, ltb-true, ltb-false, lt-ltb, le-ltb}
+use borrow.Author.Tests.{leb-true, leb-false, le-leb, lt-leb, ltb-true, ltb-false, lt-ltb, le-ltb}
 use Rattle.machine.specs.Test.{_and_, _or_}
-use Rattle.machine.specs.Rules.{Stage, pre, rank, same, Place, Places, further, shortOf}
-use Rattle.machine.proofs.Tests.{Outcome, passes, fails, outcome, never, Last, before, at, last, is-same, same-fails, and-fails-l, and-passes, or-passes-l, or-passes-r, or-fails, or-left, and-left}
+use Rattle.machine.specs.Rules.{Stage, pre, post, rank, same, Place, Places, further, shortOf}
+use Rattle.machine.proofs.Numbers.{Tri, less, equal, more, tri, Last, before, at, last}
+use Rattle.machine.proofs.Tests.{Outcome, passes, fails, outcome, is-same, same-fails, and-fails-l, and-passes, or-passes-l, or-passes-r, or-fails, or-left, and-left}
 use Rattle.machine.proofs.Schedule.{Behaviour, enters, done, starts, own}
-use Rattle.machine.proofs.Levels.{Tri, less, equal, more, tri, stageAt, rank-stage, same-level}
+use Rattle.machine.proofs.Levels.{stageAt, rank-stage, same-level}
 
 -- Times rise with the level.
 pub enters-before : (b : Behaviour) (i s u : ℕ) → s < u → done b i s ≤ enters b i u
@@ -136,6 +137,18 @@ unfolding standing
 in-pre-level {b} {t} {j} {l = zero} st = sym (lt-ltb t (enters b j 1) (not-yet st 1 (omega arith) (omega arith)))
 in-pre-level {b} {t} {j} {l = suc l} st = same-fails (stageAt (b .lane j) (suc l)) pre (λ e. let p = same-level (b .lane j) true (suc l) 0 (st .level) (omega arith) (is-same (stageAt (b .lane j) (suc l)) pre e) in omega arith) ∙ sym (le-ltb t (enters b j 1) (already st 1 (omega arith)))
 
+in-post-level : {b : Behaviour} {t j l : ℕ} → Stands b t j l → same (standing b t j l .stage) post ≡ leb (enters b j 6) t
+unfolding standing
+in-post-level {b} {t} {j} {l} st = pick (last l 6 (let h = st .level in omega arith))
+  where
+    pick : Last l 6 → same (stageAt (b .lane j) l) post ≡ leb (enters b j 6) t
+    pick (before m) =
+        same-fails (stageAt (b .lane j) l) post
+        (λ e. let p = same-level (b .lane j) true l 6 (st .level) (omega arith) (is-same (stageAt (b .lane j) l) post e) in omega arith)
+        ∙ sym (lt-leb (enters b j 6) t (not-yet st 6 m (omega arith)))
+    pick (at e) =
+        is-same (stageAt (b .lane j) l) post (ap (stageAt (b .lane j)) e) ∙ sym (le-leb (enters b j 6) t (already st 6 (omega arith)))
+
 -- where the schedule has instruction j stand
 unfoldable pub scheduled : Behaviour → ℕ → Places
 scheduled b t j = standing b t j (levelAt (enters b j) t)
@@ -151,6 +164,10 @@ short-of b t j h l = short-of-level (stands b t j) h l
 pub in-pre : (b : Behaviour) (t j : ℕ) → same (scheduled b t j .stage) pre ≡ ltb t (enters b j 1)
 unfolding scheduled
 in-pre b t j = in-pre-level (stands b t j)
+
+pub in-post : (b : Behaviour) (t j : ℕ) → same (scheduled b t j .stage) post ≡ leb (enters b j 6) t
+unfolding scheduled
+in-post b t j = in-post-level (stands b t j)
 
 -- nothing is short of pre
 pub never-short : (b : Behaviour) (t j : ℕ) → isShort b t j 0 ≡ false

@@ -7,6 +7,7 @@ use lib.Dec.{eqb}
 use borrow.Author.Tests.{eqb-true, eq-eqb, not-true}
 use Rattle.machine.specs.Test.{_and_, _or_, every, none}
 use Rattle.machine.specs.Rules.{Stage, pre, IF, ID, EX, MEM, ST, WB, post, same}
+use Rattle.machine.proofs.Numbers.{Last, before, at, last}
 
 -- a test and its two outcomes
 pub data Outcome (b : Bool) : Type 0 where
@@ -117,21 +118,6 @@ pub or-r : (a b : Bool) → a or b ≡ false → b ≡ false
 unfolding _or_
 or-r true b e = absurd (false≢true (sym e))
 or-r false b e = e
-
--- how a number below a successor stands to the one below it
-pub data Last (k n : ℕ) : Type 0 where
-  before : k < n → Last k n
-  at : k ≡ n → Last k n
-
-pub last : (k n : ℕ) → k < suc n → Last k n
-last zero zero h = at refl
-last zero (suc n) h = before (omega arith)
-last (suc k) zero h = absurd (omega arith)
-last (suc k) (suc n) h = up (last k n (omega arith))
-  where
-    up : Last k n → Last (suc k) (suc n)
-    up (before l) = before (omega arith)
-    up (at e) = at (omega arith)
 
 pub every-passes : (test : ℕ → Bool) (n : ℕ) → ((k : ℕ) → k < n → test k ≡ true) → every test n ≡ true
 unfolding every

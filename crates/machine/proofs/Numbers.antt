@@ -1,8 +1,47 @@
--- The greatest of a number and of a function's values below a bound; sums of such values. Each law is an induction on the bound.
+-- Numbers below a bound: their order as views to match on, induction over all below, the greatest and the sum of a function's values.
 use Prim.Native.Nat.{ℕ, zero, suc, _+_, _≤_, _<_, max}
-use mathlib.Core.Path.{_≡_, refl, sym, ap₂, subst}
+use mathlib.Core.Path.{_≡_, refl, sym, ap, ap₂, subst}
 use native.Mathlib.Omega.{arith}
-use Rattle.machine.proofs.Tests.{Last, before, at, last}
+
+-- the order of two numbers
+pub data Tri (a c : ℕ) : Type 0 where
+  less : a < c → Tri a c
+  equal : a ≡ c → Tri a c
+  more : c < a → Tri a c
+
+pub tri : (a c : ℕ) → Tri a c
+tri zero zero = equal refl
+tri zero (suc c) = less (omega arith)
+tri (suc a) zero = more (omega arith)
+tri (suc a) (suc c) = up (tri a c)
+  where
+    up : Tri a c → Tri (suc a) (suc c)
+    up (less l) = less (omega arith)
+    up (equal e) = equal (ap suc e)
+    up (more l) = more (omega arith)
+
+-- how a number below a successor stands to the one below it
+pub data Last (k n : ℕ) : Type 0 where
+  before : k < n → Last k n
+  at : k ≡ n → Last k n
+
+pub last : (k n : ℕ) → k < suc n → Last k n
+last zero zero h = at refl
+last zero (suc n) h = before (omega arith)
+last (suc k) zero h = absurd (omega arith)
+last (suc k) (suc n) h = up (last k n (omega arith))
+  where
+    up : Last k n → Last (suc k) (suc n)
+    up (before l) = before (omega arith)
+    up (at e) = at (omega arith)
+
+-- induction over all that are below
+all-below : (P : ℕ → Type 0) → ((i : ℕ) → ((j : ℕ) → j < i → P j) → P i) → (n i : ℕ) → i < n → P i
+all-below P step zero i l = absurd (omega arith)
+all-below P step (suc n) i l = step i (λ j m. all-below P step n j (omega arith))
+
+pub by-age : (P : ℕ → Type 0) → ((i : ℕ) → ((j : ℕ) → j < i → P j) → P i) → (i : ℕ) → P i
+by-age P step i = all-below P step (suc i) i (omega arith)
 
 -- the greatest of a base and of f's values below n
 unfoldable pub greatest : ℕ → (ℕ → ℕ) → ℕ → ℕ

@@ -1,0 +1,96 @@
+-- The finishing time is the greatest of the times at which instructions enter post, 0 for the empty trace: the rules' test of all having
+-- left passes from that time on and not before, so the search for the least finds it.
+use Prim.Native.Nat.{ℕ, zero, suc, _+_, _≤_, _<_}
+use mathlib.Core.Bool.{Bool, true, false}
+use mathlib.Core.Path.{_≡_, refl, sym, ap, subst, _∙_}
+use native.Mathlib.Omega.{arith}
+use lib.Dec.{leb}
+use lib.ListN.{length}
+use borrow.Author.Tests.{leb-true, leb-false, le-leb, lt-leb}
+use Rattle.machine.specs.Instruction.{Trace}
+use Rattle.machine.specs.Rules.{post, same, Place, after, allLeft}
+use Rattle.machine.specs.Time.{bound, leastFrom, finish}
+use Rattle.machine.specs.Claims.{FinishIsLeast, FinishBounded}
+use Rattle.machine.proofs.Numbers.{Tri, less, equal, more, tri, greatest, le-greatest, greatest-le}
+use Rattle.machine.proofs.Tests.{Outcome, passes, fails, outcome, never, equal-tests, every-at, every-passes}
+use Rattle.machine.proofs.Schedule.{Behaviour, enters}
+use Rattle.machine.proofs.Standing.{scheduled, in-post}
+use Rattle.machine.proofs.Derivation.{behaviour}
+use Rattle.machine.proofs.Bridge.{bridge}
+use Rattle.machine.proofs.Bounds.{times-within, bound-take}
+
+-- when the last of the first n instructions enters post
+unfoldable pub lastLeaves : Behaviour → ℕ → ℕ
+lastLeaves b n = greatest 0 (λ i. enters b i 6) n
+
+pub leaves-by : (b : Behaviour) (n i : ℕ) → i < n → enters b i 6 ≤ lastLeaves b n
+unfolding lastLeaves
+leaves-by b n i l = le-greatest 0 (λ i. enters b i 6) n i l
+
+pub last-leaves-by : (b : Behaviour) (n m : ℕ) → ((i : ℕ) → i < n → enters b i 6 ≤ m) → lastLeaves b n ≤ m
+unfolding lastLeaves
+last-leaves-by b n m h =
+    let p = greatest-le 0 (λ i. enters b i 6) n 0 m (omega arith) (λ k l. let q = h k l in omega arith) in
+    omega arith
+
+left-at : (trace : Trace) (t i : ℕ) → i < length trace → same (after trace t i .stage) post ≡ leb (enters (behaviour trace) i 6) t
+left-at trace t i l = ap (λ (p : Place). same (p .stage) post) (bridge trace t i l) ∙ in-post (behaviour trace) t i
+
+pub all-left-at : (trace : Trace) (t : ℕ) → allLeft trace (after trace t) ≡ leb (lastLeaves (behaviour trace) (length trace)) t
+unfolding allLeft
+all-left-at trace t =
+    equal-tests _ _
+    (λ e.
+    le-leb (lastLeaves (behaviour trace) (length trace)) t
+    (last-leaves-by (behaviour trace) (length trace) t
+    (λ i l.
+    leb-true (enters (behaviour trace) i 6) t
+    (sym (left-at trace t i l) ∙ every-at (λ i. same (after trace t i .stage) post) (length trace) e i l))))
+    (λ e.
+    every-passes (λ i. same (after trace t i .stage) post) (length trace)
+    (λ i l.
+    left-at trace t i l
+    ∙ le-leb (enters (behaviour trace) i 6) t
+    (let p = leb-true (lastLeaves (behaviour trace) (length trace)) t e in let q = leaves-by (behaviour trace) (length trace) i l in omega arith)))
+
+-- the search finds a time before which the test fails and at which it passes
+least-from : (test : ℕ → Bool) (tries t goal : ℕ) →
+    ((u : ℕ) → u < goal → test u ≡ false) →
+    test goal ≡ true →
+    t ≤ goal →
+    goal ≤ t + tries →
+    leastFrom test tries t ≡ goal
+unfolding leastFrom
+least-from test zero t goal h p l m = omega arith
+least-from test (suc tries) t goal h p l m = pick (least-from test tries (suc t) goal h p) (tri t goal)
+  where
+    pick : (suc t ≤ goal → goal ≤ suc t + tries → leastFrom test tries (suc t) ≡ goal) → Tri t goal → leastFrom test (suc tries) t ≡ goal
+    pick ih (less k) = rw (h t k, leastFrom) (ih k (omega arith))
+    pick ih (equal e) = rw (ap test e ∙ p, leastFrom) e
+    pick ih (more k) = absurd (omega arith)
+
+leaves-within : (trace : Trace) → lastLeaves (behaviour trace) (length trace) ≤ bound trace
+leaves-within trace =
+    last-leaves-by (behaviour trace) (length trace) (bound trace)
+    (λ i l. let p = times-within trace i 6 l (omega arith) in let q = bound-take trace (suc i) in omega arith)
+
+pub finish-is : (trace : Trace) → finish trace ≡ lastLeaves (behaviour trace) (length trace)
+unfolding finish
+finish-is trace =
+    least-from (λ t. allLeft trace (after trace t)) (bound trace) 0 (lastLeaves (behaviour trace) (length trace))
+    (λ u l. all-left-at trace u ∙ lt-leb (lastLeaves (behaviour trace) (length trace)) u l)
+    (all-left-at trace (lastLeaves (behaviour trace) (length trace))
+    ∙ le-leb (lastLeaves (behaviour trace) (length trace)) (lastLeaves (behaviour trace) (length trace)) (omega arith))
+    (omega arith)
+    (let p = leaves-within trace in omega arith)
+
+pub finish-is-least : FinishIsLeast
+finish-is-least trace =
+    rw (finish-is trace) (
+      all-left-at trace (lastLeaves (behaviour trace) (length trace))
+          ∙ le-leb (lastLeaves (behaviour trace) (length trace)) (lastLeaves (behaviour trace) (length trace)) (omega arith),
+      λ t l. all-left-at trace t ∙ lt-leb (lastLeaves (behaviour trace) (length trace)) t l,
+    )
+
+pub finish-bounded : FinishBounded
+finish-bounded trace = rw (finish-is trace) (leaves-within trace)
