@@ -13,7 +13,7 @@ use Rattle.machine.specs.Time.{bound}
 use Rattle.machine.proofs.Numbers.{by-age, sum, sum-mono}
 use Rattle.machine.proofs.Schedule.{Behaviour, shares, Together, early, late, together, enters, done, starts, least}
 use Rattle.machine.proofs.Levels.{stageAt}
-use Rattle.machine.proofs.Derivation.{behaviour, countAt}
+use Rattle.machine.proofs.Derivation.{countAt, last-count, behaviour}
 
 -- an instruction's levels and entry counts up to a level
 unfoldable pub upTo : Behaviour → ℕ → ℕ → ℕ
@@ -63,11 +63,6 @@ enters-within b i s l = let p = enters-bounded b i s l in let q = older-level b 
 fetch-count : (x : Bool) (n : ℕ) → cond x n 0 ≤ n
 fetch-count true n = omega arith
 fetch-count false n = omega arith
-
-last-count : (i : Instruction) (lane : Bool) → entry i (stageAt lane 5) ≡ cond lane (cond (misses (i .access)) (i .dataLatency - 1) 0) 0
-unfolding entry
-last-count i true = refl
-last-count i false = refl
 
 data-count : (k : Kind) (m : Bool) (n : ℕ) → cond (isLoad k and m) n 0 + cond (isStore k) (cond m (n - 1) 0) 0 ≤ n
 unfolding _and_

@@ -1,11 +1,11 @@
 -- What the instructions of a trace do, from their records: the one place where the schedule meets the format and the rules. A rule that
 -- holds instructions back is a line of `waits` here; `Readiness` shows that the rules say the same.
-use Prim.Native.Nat.{ℕ, zero, suc, _≤_}
-use mathlib.Core.Bool.{Bool, true, false}
+use Prim.Native.Nat.{ℕ, zero, suc, _-_, _≤_}
+use mathlib.Core.Bool.{Bool, true, false, cond}
 use mathlib.Core.Path.{_≡_, refl}
 use native.Mathlib.Omega.{arith}
 use Rattle.machine.specs.Instruction.{Kind, plain, load, store, branch, Instruction, Trace, instruction}
-use Rattle.machine.specs.Rules.{isStore, hits, entry, reads, missesData}
+use Rattle.machine.specs.Rules.{isStore, hits, misses, entry, reads, missesData}
 use Rattle.machine.proofs.Schedule.{Behaviour}
 use Rattle.machine.proofs.Levels.{stageAt}
 
@@ -79,6 +79,12 @@ waits-reach (suc (suc (suc (suc s)))) i older = omega arith
 -- the entry count of an instruction at a level
 abbrev pub countAt : Instruction → ℕ → ℕ
 countAt i s = entry i (stageAt (isStore (i .kind)) s)
+
+-- at level 5 it is a store's
+pub last-count : (i : Instruction) (lane : Bool) → entry i (stageAt lane 5) ≡ cond lane (cond (misses (i .access)) (i .dataLatency - 1) 0) 0
+unfolding entry
+last-count i true = refl
+last-count i false = refl
 
 no-count-in-pre : (i : Instruction) → countAt i 0 ≡ 0
 unfolding entry

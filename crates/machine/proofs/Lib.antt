@@ -10,3 +10,5 @@ pub mod Moves
 pub mod Bridge
 pub mod Bounds
 pub mod Finish
+pub mod Monotone
+pub mod Slower
