@@ -1,19 +1,18 @@
 -- How long anything takes: each level is entered at most after a cycle for each level of each instruction up to there, and their entry counts.
 -- So the finishing time is at most document 01's sum, and that sum is small for traces within the format's limits.
 use Prim.Native.Nat.{ℕ, zero, suc, _+_, _-_, _*_, _≤_, _<_}
-use mathlib.Core.Bool.{Bool, true, false, cond}
+use mathlib.Core.Bool.{Bool, true, false}
 use mathlib.Core.Path.{_≡_, refl, sym, ap, subst, _∙_}
 use native.Mathlib.Omega.{arith}
 use mathlib.Core.List.{[], _∷_}
 use lib.ListN.{length, take}
 use Rattle.machine.specs.Test.{_and_}
 use Rattle.machine.specs.Instruction.{Kind, plain, load, store, branch, Instruction, Trace, instruction}
-use Rattle.machine.specs.Rules.{isLoad, isStore, misses, entry}
+use Rattle.machine.specs.Rules.{misses}
 use Rattle.machine.specs.Time.{bound}
 use Rattle.machine.proofs.Numbers.{by-age, sum, sum-mono}
 use Rattle.machine.proofs.Schedule.{Behaviour, shares, Together, early, late, together, enters, done, starts, least}
-use Rattle.machine.proofs.Levels.{stageAt}
-use Rattle.machine.proofs.Derivation.{countAt, last-count, behaviour}
+use Rattle.machine.proofs.Derivation.{countAt, fetchCount, dataCount, counts-are, behaviour}
 
 -- an instruction's levels and entry counts up to a level
 unfoldable pub upTo : Behaviour → ℕ → ℕ → ℕ
@@ -60,11 +59,11 @@ pub enters-within : (b : Behaviour) (i s : ℕ) → s ≤ 6 → enters b i s ≤
 enters-within b i s l = let p = enters-bounded b i s l in let q = older-level b (suc i) i s (omega arith) l in omega arith
 
 -- An instruction's entry counts are its latencies or less.
-fetch-count : (x : Bool) (n : ℕ) → cond x n 0 ≤ n
+fetch-count : (x : Bool) (n : ℕ) → fetchCount x n ≤ n
 fetch-count true n = omega arith
 fetch-count false n = omega arith
 
-data-count : (k : Kind) (m : Bool) (n : ℕ) → cond (isLoad k and m) n 0 + cond (isStore k) (cond m (n - 1) 0) 0 ≤ n
+data-count : (k : Kind) (m : Bool) (n : ℕ) → dataCount k m n ≤ n
 unfolding _and_
 data-count plain m n = omega arith
 data-count load true n = omega arith
@@ -74,10 +73,9 @@ data-count store false n = omega arith
 data-count branch m n = omega arith
 
 counts-bounded : (i : Instruction) → sum (countAt i) 6 ≤ i .executionLatency + i .fetchLatency + i .dataLatency
-unfolding sum entry
 counts-bounded i =
     let f = fetch-count (misses (i .fetch)) (i .fetchLatency) in
-    let e = last-count i (isStore (i .kind)) in
+    let e = counts-are i in
     let d = data-count (i .kind) (misses (i .access)) (i .dataLatency) in
     omega arith
 

@@ -1,11 +1,13 @@
 -- What the instructions of a trace do, from their records: the one place where the schedule meets the format and the rules. A rule that
 -- holds instructions back is a line of `waits` here; `Readiness` shows that the rules say the same.
-use Prim.Native.Nat.{ℕ, zero, suc, _-_, _≤_}
+use Prim.Native.Nat.{ℕ, zero, suc, _+_, _-_, _≤_}
 use mathlib.Core.Bool.{Bool, true, false, cond}
 use mathlib.Core.Path.{_≡_, refl}
 use native.Mathlib.Omega.{arith}
+use Rattle.machine.specs.Test.{_and_}
 use Rattle.machine.specs.Instruction.{Kind, plain, load, store, branch, Instruction, Trace, instruction}
-use Rattle.machine.specs.Rules.{isStore, hits, misses, entry, reads, missesData}
+use Rattle.machine.specs.Rules.{isLoad, isStore, hits, misses, entry, reads, missesData}
+use Rattle.machine.proofs.Numbers.{sum}
 use Rattle.machine.proofs.Schedule.{Behaviour}
 use Rattle.machine.proofs.Levels.{stageAt}
 
@@ -85,6 +87,18 @@ pub last-count : (i : Instruction) (lane : Bool) → entry i (stageAt lane 5) �
 unfolding entry
 last-count i true = refl
 last-count i false = refl
+
+-- the counts of a fetch and of a data access, and all counts together
+abbrev pub fetchCount : Bool → ℕ → ℕ
+fetchCount missed n = cond missed n 0
+
+abbrev pub dataCount : Kind → Bool → ℕ → ℕ
+dataCount kind missed n = cond (isLoad kind and missed) n 0 + cond (isStore kind) (cond missed (n - 1) 0) 0
+
+pub counts-are : (i : Instruction) →
+    sum (countAt i) 6 ≡ fetchCount (misses (i .fetch)) (i .fetchLatency) + i .executionLatency + dataCount (i .kind) (misses (i .access)) (i .dataLatency)
+unfolding sum entry
+counts-are i = let e = last-count i (isStore (i .kind)) in omega arith
 
 no-count-in-pre : (i : Instruction) → countAt i 0 ≡ 0
 unfolding entry

@@ -12,3 +12,4 @@ pub mod Bounds
 pub mod Finish
 pub mod Monotone
 pub mod Slower
+pub mod Longer

@@ -101,3 +101,9 @@ sum-mono f (suc m) n l = pick (sum-mono f m n) (last n (suc m) (omega arith))
     pick : (n ≤ m → sum f n ≤ sum f m) → Last n (suc m) → sum f n ≤ sum f (suc m)
     pick ih (before k) = let a = ih (omega arith) in omega arith
     pick ih (at e) = subst (λ (x : ℕ). sum f x ≤ sum f (suc m)) (sym e) (omega arith)
+
+-- the first value may stand in front
+pub sum-first : (f : ℕ → ℕ) (n : ℕ) → sum f (suc n) ≡ f 0 + sum (λ k. f (suc k)) n
+unfolding sum
+sum-first f zero = omega arith
+sum-first f (suc n) = let h = sum-first f n in omega arith
