@@ -13,3 +13,4 @@ pub mod Finish
 pub mod Monotone
 pub mod Slower
 pub mod Longer
+pub mod Settlings
