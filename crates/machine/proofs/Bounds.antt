@@ -54,10 +54,6 @@ bounded-step b i ih (suc s) l =
 pub enters-bounded : (b : Behaviour) (i : ℕ) → Bounded b i
 enters-bounded b = by-age (Bounded b) (bounded-step b)
 
--- every level is entered before what the instructions up to i cost together
-pub enters-within : (b : Behaviour) (i s : ℕ) → s ≤ 6 → enters b i s ≤ olderCost b (suc i)
-enters-within b i s l = let p = enters-bounded b i s l in let q = older-level b (suc i) i s (omega arith) l in omega arith
-
 -- An instruction's entry counts are its latencies or less.
 fetch-count : (x : Bool) (n : ℕ) → fetchCount x n ≤ n
 fetch-count true n = omega arith
@@ -96,9 +92,13 @@ cost-bounded trace (suc k) l =
     let q = bound-step trace k l in
     omega arith
 
--- all times of instruction k lie within the bound of the first k + 1 instructions
-pub times-within : (trace : Trace) (k s : ℕ) → k < length trace → s ≤ 6 → enters (behaviour trace) k s ≤ bound (take (suc k) trace)
-times-within trace k s l m = let p = enters-within (behaviour trace) k s m in let q = cost-bounded trace (suc k) l in omega arith
+-- all times of the first k instructions lie within their bound
+pub times-within : (trace : Trace) (k j s : ℕ) → j < k → k ≤ length trace → s ≤ 6 → enters (behaviour trace) j s ≤ bound (take k trace)
+times-within trace k j s l m h =
+    let p = enters-bounded (behaviour trace) j s h in
+    let q = older-level (behaviour trace) k j s l h in
+    let r = cost-bounded trace k m in
+    omega arith
 
 pub bound-take : (trace : Trace) (k : ℕ) → bound (take k trace) ≤ bound trace
 unfolding bound

@@ -72,7 +72,7 @@ least-from test (suc tries) t goal h p l m = pick (least-from test tries (suc t)
 leaves-within : (trace : Trace) → lastLeaves (behaviour trace) (length trace) ≤ bound trace
 leaves-within trace =
     last-leaves-by (behaviour trace) (length trace) (bound trace)
-    (λ i l. let p = times-within trace i 6 l (omega arith) in let q = bound-take trace (suc i) in omega arith)
+    (λ i l. let p = times-within trace (suc i) i 6 (omega arith) l (omega arith) in let q = bound-take trace (suc i) in omega arith)
 
 pub finish-is : (trace : Trace) → finish trace ≡ lastLeaves (behaviour trace) (length trace)
 unfolding finish

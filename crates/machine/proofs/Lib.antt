@@ -14,3 +14,8 @@ pub mod Monotone
 pub mod Slower
 pub mod Longer
 pub mod Settlings
+pub mod Window
+pub mod Dominance
+pub mod FetchTime
+pub mod StageTimes
+pub mod WindowTimes
