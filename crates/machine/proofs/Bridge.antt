@@ -15,7 +15,7 @@ use Rattle.machine.proofs.Standing.{Stands, stands, levelAt, standing, 
 use Rattle.machine.proofs.Derivation.{behaviour, countAt}
 use Rattle.machine.proofs.Moves.{double, double-is, stage-of, count-of, next-of, moves-enters, enters-moves}
 
-place-is : {a c : Stage} {m n : ℕ} → a ≡ c → m ≡ n → _≡_ {A = Place} (record { stage = a; count = m }) (record { stage = c; count = n })
+pub place-is : {a c : Stage} {m n : ℕ} → a ≡ c → m ≡ n → _≡_ {A = Place} (record { stage = a; count = m }) (record { stage = c; count = n })
 place-is p q = λ i. record { stage = p i; count = q i }
 
 module _ (trace : Trace) (t : ℕ) (places : Places) (described : (j : ℕ) → j < length trace → places j ≡ scheduled (behaviour trace) t j) where

@@ -8,13 +8,13 @@ use lib.Dec.{leb}
 use lib.ListN.{length}
 use borrow.Author.Tests.{leb-true, leb-false, le-leb, lt-leb}
 use Rattle.machine.specs.Instruction.{Trace}
-use Rattle.machine.specs.Rules.{post, same, Place, after, allLeft}
+use Rattle.machine.specs.Rules.{post, same, Place, entry, after, allLeft}
 use Rattle.machine.specs.Time.{bound, leastFrom, finish}
 use Rattle.machine.specs.Claims.{FinishIsLeast, FinishBounded}
 use Rattle.machine.proofs.Numbers.{Tri, less, equal, more, tri, greatest, le-greatest, greatest-le}
 use Rattle.machine.proofs.Tests.{Outcome, passes, fails, outcome, never, equal-tests, every-at, every-passes}
 use Rattle.machine.proofs.Schedule.{Behaviour, enters}
-use Rattle.machine.proofs.Standing.{scheduled, in-post}
+use Rattle.machine.proofs.Standing.{in-post, at-post-level}
 use Rattle.machine.proofs.Derivation.{behaviour}
 use Rattle.machine.proofs.Bridge.{bridge}
 use Rattle.machine.proofs.Bounds.{times-within, bound-take}
@@ -94,3 +94,11 @@ finish-is-least trace =
 
 pub finish-bounded : FinishBounded
 finish-bounded trace = rw (finish-is trace) (leaves-within trace)
+
+-- from the finishing time on everything is in post
+pub stays-left : (trace : Trace) (t i : ℕ) → i < length trace → finish trace ≤ t → after trace t i ≡ record { stage = post; count = 0 }
+unfolding behaviour entry
+stays-left trace t i l m =
+    let p = leaves-by (behaviour trace) (length trace) i l in
+    let q = finish-is trace in
+    bridge trace t i l ∙ at-post-level (behaviour trace) t i refl (omega arith)

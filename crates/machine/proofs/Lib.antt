@@ -19,3 +19,5 @@ pub mod Dominance
 pub mod FetchTime
 pub mod StageTimes
 pub mod WindowTimes
+pub mod WindowBounds
+pub mod WindowPlaces

@@ -173,3 +173,13 @@ in-post b t j = in-post-level (stands b t j)
 pub never-short : (b : Behaviour) (t j : ℕ) → isShort b t j 0 ≡ false
 unfolding isShort
 never-short b t j = let p = starts b j in let q = b .count-in-pre j in le-ltb t (enters b j 0 + b .count j 0) (omega arith)
+
+-- an instruction that has entered post is there, with no count left
+pub at-post-level : (b : Behaviour) (t j : ℕ) → b .count j 6 ≡ 0 → enters b j 6 ≤ t → scheduled b t j ≡ record { stage = post; count = 0 }
+unfolding standing
+at-post-level b t j e l =
+    scheduled-at {s = 6} (record { level = omega arith; entered = l; stays = λ k. absurd (omega arith) })
+    ∙ (λ i. record { stage = post; count = zero-left i })
+  where
+    zero-left : b .count j 6 - (t - enters b j 6) ≡ 0
+    zero-left = omega arith

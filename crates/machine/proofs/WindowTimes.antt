@@ -25,7 +25,7 @@ scheduledTimes b k =
     record { IF = enters b k 1; ID = enters b k 2; EX = enters b k 3; MEM = enters b k 4; last = enters b k 5; post = enters b k 6 }
 
 -- what the window before instruction k holds
-seen : Trace → ℕ → Window
+unfoldable pub seen : Trace → ℕ → Window
 seen trace k =
     let b = behaviour trace in
     record {
@@ -76,10 +76,19 @@ slide-seen : (trace : Trace) (k : ℕ) → slide (seen trace k) (instruction tra
 unfolding slide seen scheduledTimes previous branches loads stores lastDone targetBefore lastLeaves greatest done behaviour
 slide-seen trace k = rw (at-post trace k)
 
-window-seen : (trace : Trace) (k : ℕ) → windowBefore trace k ≡ seen trace k
+pub window-seen : (trace : Trace) (k : ℕ) → windowBefore trace k ≡ seen trace k
 unfolding windowBefore noWindow seen previous branches loads stores lastDone targetBefore lastLeaves greatest
 window-seen trace zero = refl
 window-seen trace (suc k) = rw (window-seen trace k, times-seen trace k) (slide-seen trace k)
+
+-- the pass: it starts with nothing seen and slides past each instruction
+pub window-starts : (trace : Trace) → windowBefore trace 0 ≡ noWindow
+unfolding windowBefore
+window-starts trace = refl
+
+pub window-slides : (trace : Trace) (k : ℕ) → windowBefore trace (suc k) ≡ slide (windowBefore trace k) (instruction trace k) (timesAt trace k)
+unfolding windowBefore timesAt
+window-slides trace k = refl
 
 -- the times from the window before instruction k are the schedule's
 pub window-times : (trace : Trace) (k : ℕ) → timesAt trace k ≡ scheduledTimes (behaviour trace) k
