@@ -1,8 +1,8 @@
 -- How long anything takes: each level is entered at most after a cycle for each level of each instruction up to there, and their entry counts.
 -- So the finishing time is at most document 01's sum, and that sum is small for traces within the format's limits.
-use Prim.Native.Nat.{ℕ, zero, suc, _+_, _-_, _*_, _≤_, _<_}
+use Prim.Native.Nat.{ℕ, zero, suc, _+_, _*_, _≤_, _<_}
 use mathlib.Core.Bool.{Bool, true, false}
-use mathlib.Core.Path.{_≡_, refl, sym, ap, subst, _∙_}
+use mathlib.Core.Path.{_≡_}
 use native.Mathlib.Omega.{arith}
 use mathlib.Core.List.{[], _∷_}
 use lib.ListN.{length, take}
@@ -11,7 +11,7 @@ use Rattle.machine.specs.Instruction.{Kind, plain, load, store, branch, 
 use Rattle.machine.specs.Rules.{misses}
 use Rattle.machine.specs.Time.{bound}
 use Rattle.machine.proofs.Numbers.{by-age, sum, sum-mono}
-use Rattle.machine.proofs.Schedule.{Behaviour, shares, Together, early, late, together, enters, done, starts, least}
+use Rattle.machine.proofs.Schedule.{Behaviour, Together, early, late, together, enters, done, starts, least}
 use Rattle.machine.proofs.Derivation.{countAt, fetchCount, dataCount, counts-are, behaviour}
 
 -- an instruction's levels and entry counts up to a level

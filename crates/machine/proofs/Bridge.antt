@@ -1,18 +1,18 @@
 -- The bridge: after any number of cycles of the rules every instruction of a trace stands where the schedule says. Induction on the cycles; one
 -- cycle takes the schedule's places at t to those at t + 1, since what moves is what enters its next level by then.
 use Prim.Native.Nat.{ℕ, zero, suc, _+_, _-_, _≤_, _<_}
-use mathlib.Core.Bool.{Bool, true, false, cond}
-use mathlib.Core.Path.{_≡_, refl, sym, ap, subst, _∙_}
+use mathlib.Core.Bool.{true, false}
+use mathlib.Core.Path.{_≡_, refl, sym, ap, _∙_}
 use native.Mathlib.Omega.{arith}
 use lib.ListN.{length}
-use Rattle.machine.specs.Instruction.{Instruction, Trace, instruction}
-use Rattle.machine.specs.Rules.{Stage, rank, Place, Places, next, entry, budget, movesWithin, moves, cycle, allPre, after}
+use Rattle.machine.specs.Instruction.{Trace, instruction}
+use Rattle.machine.specs.Rules.{Stage, rank, Place, Places, entry, budget, movesWithin, moves, cycle, allPre, after}
 use Rattle.machine.proofs.Numbers.{Tri, less, equal, more, tri, Last, before, at, last}
 use Rattle.machine.proofs.Tests.{Outcome, passes, fails, outcome, never}
-use Rattle.machine.proofs.Schedule.{Behaviour, enters, done, starts, own}
-use Rattle.machine.proofs.Levels.{stageAt, rank-stage}
+use Rattle.machine.proofs.Schedule.{enters, done, starts, own}
+use Rattle.machine.proofs.Levels.{rank-stage}
 use Rattle.machine.proofs.Standing.{Stands, stands, levelAt, standing, scheduled, scheduled-at}
-use Rattle.machine.proofs.Derivation.{behaviour, countAt}
+use Rattle.machine.proofs.Derivation.{behaviour}
 use Rattle.machine.proofs.Moves.{double, double-is, stage-of, count-of, next-of, moves-enters, enters-moves}
 
 pub place-is : {a c : Stage} {m n : ℕ} → a ≡ c → m ≡ n → _≡_ {A = Place} (record { stage = a; count = m }) (record { stage = c; count = n })

@@ -1,13 +1,12 @@
 -- Which older instructions decide: of those that share a stage, the one directly before; of those of one kind that are waited for, the
 -- last. Each enters, and is done, no earlier than the ones before it, since they share the stages on the way.
-use Prim.Native.Nat.{ℕ, zero, suc, _+_, _≤_, _<_}
-use mathlib.Core.Bool.{Bool, true, false, cond}
-use mathlib.Core.Path.{_≡_, refl, sym, ap, subst, _∙_}
+use Prim.Native.Nat.{ℕ, zero, suc, _≤_, _<_}
+use mathlib.Core.Bool.{Bool, true, cond}
+use mathlib.Core.Path.{_≡_, sym, ap, subst, _∙_}
 use native.Mathlib.Omega.{arith}
 use Rattle.machine.proofs.Numbers.{Last, before, at, last}
 use Rattle.machine.proofs.Tests.{Outcome, passes, fails, outcome, never}
-use Rattle.machine.proofs.Schedule.{Behaviour, shares, shares-early, enters, done, starts, own, share}
-use Rattle.machine.proofs.Standing.{enters-before}
+use Rattle.machine.proofs.Schedule.{Behaviour, shares, shares-early, enters, done, own, share}
 
 -- the instruction directly before k entered a level; 0 where there is none
 unfoldable pub previous : Behaviour → ℕ → ℕ → ℕ

@@ -2,17 +2,17 @@
 -- left passes from that time on and not before, so the search for the least finds it.
 use Prim.Native.Nat.{ℕ, zero, suc, _+_, _≤_, _<_}
 use mathlib.Core.Bool.{Bool, true, false}
-use mathlib.Core.Path.{_≡_, refl, sym, ap, subst, _∙_}
+use mathlib.Core.Path.{_≡_, refl, sym, ap, _∙_}
 use native.Mathlib.Omega.{arith}
 use lib.Dec.{leb}
 use lib.ListN.{length}
-use borrow.Author.Tests.{leb-true, leb-false, le-leb, lt-leb}
+use borrow.Author.Tests.{leb-true, le-leb, lt-leb}
 use Rattle.machine.specs.Instruction.{Trace}
 use Rattle.machine.specs.Rules.{post, same, Place, entry, after, allLeft}
 use Rattle.machine.specs.Time.{bound, leastFrom, finish}
 use Rattle.machine.specs.Claims.{FinishIsLeast, FinishBounded}
 use Rattle.machine.proofs.Numbers.{Tri, less, equal, more, tri, greatest, le-greatest, greatest-le}
-use Rattle.machine.proofs.Tests.{Outcome, passes, fails, outcome, never, equal-tests, every-at, every-passes}
+use Rattle.machine.proofs.Tests.{equal-tests, every-at, every-passes}
 use Rattle.machine.proofs.Schedule.{Behaviour, enters}
 use Rattle.machine.proofs.Standing.{in-post, at-post-level}
 use Rattle.machine.proofs.Derivation.{behaviour}

@@ -1,9 +1,9 @@
 -- Where only latencies differ, the schedule is later by at most what was added: at each level by at most the difference of the entry counts
 -- up to there. Sums stand on both sides, so that nothing is subtracted.
 use Prim.Native.Nat.{ℕ, zero, suc, _+_, _-_, _≤_, _<_}
-use mathlib.Core.Bool.{Bool, true, false, cond}
-use mathlib.Core.List.{[], _∷_}
-use mathlib.Core.Path.{_≡_, refl, sym, ap, subst, _∙_}
+use mathlib.Core.Bool.{Bool, true, false}
+use mathlib.Core.List.{_∷_}
+use mathlib.Core.Path.{_≡_, refl, sym, subst, _∙_}
 use native.Mathlib.Omega.{arith}
 use lib.ListN.{length}
 use Rattle.machine.specs.Test.{_and_}
@@ -12,7 +12,7 @@ use Rattle.machine.specs.Rules.{misses, reads, missesData}
 use Rattle.machine.specs.Order.{SlowerInstruction, Slower, slower-none, slower-more, SameFlags, same-none, same-more, added}
 use Rattle.machine.specs.Claims.{AddedAtMost}
 use Rattle.machine.proofs.Numbers.{by-age, greatest-le, sum, sum-grows, sum-first}
-use Rattle.machine.proofs.Schedule.{Behaviour, shares, Together, early, late, together, enters, done, starts, own, share, wait, least-plus}
+use Rattle.machine.proofs.Schedule.{Behaviour, Together, early, late, together, enters, done, starts, own, share, wait, least-plus}
 use Rattle.machine.proofs.Derivation.{waits, countAt, fetchCount, dataCount, counts-are, behaviour}
 use Rattle.machine.proofs.Finish.{lastLeaves, leaves-by, finish-is}
 use Rattle.machine.proofs.Monotone.{shares-alike}

@@ -1,8 +1,8 @@
 -- The schedule rises with entry counts and with what is waited for: each term does. So where one behaviour is slower than another, no
 -- instruction is ever further on in it.
-use Prim.Native.Nat.{ℕ, zero, suc, _+_, _-_, _≤_, _<_}
-use mathlib.Core.Bool.{Bool, true, false}
-use mathlib.Core.Path.{_≡_, refl, sym, ap, subst, _∙_}
+use Prim.Native.Nat.{ℕ, zero, suc, _-_, _≤_, _<_}
+use mathlib.Core.Bool.{false}
+use mathlib.Core.Path.{_≡_, sym, subst, _∙_}
 use native.Mathlib.Omega.{arith}
 use lib.Dec.{ltb}
 use borrow.Author.Tests.{le-ltb}
@@ -12,7 +12,7 @@ use Rattle.machine.proofs.Numbers.{Tri, less, equal, more, tri, Last, b
 use Rattle.machine.proofs.Tests.{Outcome, passes, fails, outcome, and-fails-l, and-fails-r, or-fails}
 use Rattle.machine.proofs.Schedule.{Behaviour, shares, enters, done, starts, own, share, wait, least}
 use Rattle.machine.proofs.Levels.{stageAt, rank-stage, same-level}
-use Rattle.machine.proofs.Standing.{enters-before, Stands, stands, levelAt, standing, scheduled, not-yet}
+use Rattle.machine.proofs.Standing.{enters-before, Stands, stands, standing, scheduled, not-yet}
 
 pub record SlowerBehaviour (a b : Behaviour) : Type 0 where
   pub count : (i s : ℕ) → a .count i s ≤ b .count i s

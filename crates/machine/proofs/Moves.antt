@@ -1,18 +1,17 @@
 -- In a state that the schedule describes at t, an instruction at level s moves exactly when it enters level s + 1 by t + 1. Count 0 is the own
 -- term of that time, ready the waits, and a free next stage the shares; each direction is an induction on the levels left to post.
 use Prim.Native.Nat.{ℕ, zero, suc, _+_, _-_, _≤_, _<_}
-use mathlib.Core.Bool.{Bool, true, false, not, cond}
+use mathlib.Core.Bool.{Bool, true, not}
 use mathlib.Core.Path.{_≡_, refl, sym, ap, subst, _∙_}
 use native.Mathlib.Omega.{arith}
-use lib.Dec.{eqb}
 use lib.ListN.{length}
 use borrow.Author.Tests.{eqb-true, eq-eqb}
-use Rattle.machine.specs.Test.{_and_, _or_, every}
+use Rattle.machine.specs.Test.{_or_}
 use Rattle.machine.specs.Instruction.{Trace, instruction}
 use Rattle.machine.specs.Rules.{Stage, post, next, same, Place, Places, readyIn, ready, movesWithin, willBeFreeWithin}
 use Rattle.machine.proofs.Numbers.{Tri, less, equal, more, tri}
 use Rattle.machine.proofs.Tests.{Outcome, passes, fails, outcome, never, not-passes, and-passes, and-l, and-r, or-passes-l, or-passes-r, or-passes, every-at, every-passes, is-same, same-fails}
-use Rattle.machine.proofs.Schedule.{Behaviour, shares, Together, early, late, together, shares-early, shares-sym, enters, done, own, share, wait, least}
+use Rattle.machine.proofs.Schedule.{shares, Together, early, late, together, shares-early, shares-sym, enters, done, own, share, wait, least}
 use Rattle.machine.proofs.Levels.{stageAt, same-level, next-stage, shares-same, same-shares}
 use Rattle.machine.proofs.Standing.{Stands, stands, levelAt, standing, scheduled, scheduled-at, already, not-yet}
 use Rattle.machine.proofs.Derivation.{behaviour}

@@ -10,7 +10,7 @@ use Rattle.machine.specs.Test.{_and_, _or_, none}
 use Rattle.machine.specs.Instruction.{Kind, plain, load, store, branch, Instruction, Trace, instruction}
 use Rattle.machine.specs.Rules.{pre, EX, MEM, ST, same, Place, Places, shortOf, isLoad, isStore, isBranch, hits, noOlder, reads, missesData, readyIn}
 use Rattle.machine.proofs.Tests.{Outcome, passes, fails, outcome, and-true, and-false, and-fails-l, or-l, or-r, or-false, or-fails, none-at, none-passes, none-same, none-false, none-or, or-none, not-or-none}
-use Rattle.machine.proofs.Schedule.{Behaviour, enters, done}
+use Rattle.machine.proofs.Schedule.{enters, done}
 use Rattle.machine.proofs.Levels.{stageAt}
 use Rattle.machine.proofs.Standing.{scheduled, isShort, short-of, in-pre, never-short}
 use Rattle.machine.proofs.Derivation.{waitsInPre, waitsInID, waitsInEX, waits, behaviour}

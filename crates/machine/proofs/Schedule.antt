@@ -5,7 +5,7 @@ use mathlib.Core.Bool.{Bool, true, false, cond, Bool·beq}
 use mathlib.Core.Path.{_≡_, refl, sym, subst, ap, _∙_}
 use native.Mathlib.Omega.{arith}
 use lib.Dec.{ltb, eqb}
-use borrow.Author.Tests.{lt-ltb, le-ltb, ltb-true, eq-eqb, ne-eqb, eqb-true}
+use borrow.Author.Tests.{lt-ltb, ltb-true, eq-eqb, ne-eqb, eqb-true}
 use Rattle.machine.specs.Test.{_and_, _or_}
 use Rattle.machine.proofs.Tests.{Outcome, passes, fails, outcome, and-l, and-r, and-passes, or-passes-l, or-passes-r, or-passes}
 use Rattle.machine.proofs.Numbers.{Last, before, at, last, greatest, base-greatest, le-greatest, greatest-le, greatest-same}

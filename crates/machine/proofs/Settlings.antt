@@ -1,11 +1,11 @@
 -- Every settling finishes between the one with all hits and the one with all misses, and both are settlings: all hits are at most as slow as
 -- any settling, and any settling at most as slow as all misses.
 use mathlib.Core.List.{[], _∷_}
-use mathlib.Core.Path.{_≡_, refl, sym}
+use mathlib.Core.Path.{refl, sym}
 use native.Mathlib.Nat.{le-of-eq}
 use Rattle.machine.specs.Instruction.{Flag, hit, miss, unknown, Instruction, Trace, blank, instruction}
-use Rattle.machine.specs.Time.{Settled, hit-stays, miss-stays, unknown-hits, unknown-misses, SettledInstruction, Settling, settled-none, settled-more, settle, best, worst}
-use Rattle.machine.specs.Order.{FlagTo, hit-hit, hit-miss, miss-miss, SlowerInstruction, Slower, slower-none, slower-more}
+use Rattle.machine.specs.Time.{Settled, hit-stays, miss-stays, unknown-hits, unknown-misses, Settling, settled-none, settled-more, settle, best, worst}
+use Rattle.machine.specs.Order.{FlagTo, hit-hit, hit-miss, miss-miss, Slower, slower-none, slower-more}
 use Rattle.machine.specs.Claims.{SettlingsEnclosed}
 use Rattle.machine.proofs.Slower.{ordered}
 

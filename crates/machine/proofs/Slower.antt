@@ -1,22 +1,18 @@
 -- A slower trace of demand 3 is a slower behaviour: entry counts and waits rise with misses and latencies. So the order of finishing times and of
 -- places follows from the schedule's.
-use Prim.Native.Nat.{ℕ, zero, suc, _+_, _-_, _≤_, _<_}
+use Prim.Native.Nat.{ℕ, zero, suc, _-_, _≤_}
 use mathlib.Core.Bool.{Bool, true, false, cond}
-use mathlib.Core.Path.{_≡_, refl, sym, ap, subst, _∙_}
+use mathlib.Core.Path.{_≡_, refl, ap}
 use native.Mathlib.Omega.{arith}
 use lib.ListN.{length}
 use Rattle.machine.specs.Test.{_and_, _or_}
-use Rattle.machine.specs.Instruction.{Kind, plain, load, store, branch, Flag, hit, miss, Instruction, Trace, blank, instruction}
-use Rattle.machine.specs.Rules.{isLoad, isStore, misses, hits, entry, reads, missesData, further, after}
-use Rattle.machine.specs.Time.{finish}
+use Rattle.machine.specs.Instruction.{Kind, plain, load, store, branch, Flag, Instruction, Trace, blank, instruction}
+use Rattle.machine.specs.Rules.{isLoad, isStore, misses, hits, entry, reads, missesData}
 use Rattle.machine.specs.Order.{FlagTo, hit-hit, hit-miss, miss-miss, SlowerInstruction, Slower, slower-none, slower-more}
 use Rattle.machine.specs.Claims.{Ordered}
-use Rattle.machine.proofs.Schedule.{Behaviour, enters}
-use Rattle.machine.proofs.Levels.{stageAt}
-use Rattle.machine.proofs.Standing.{scheduled}
-use Rattle.machine.proofs.Derivation.{waitsInPre, waitsInID, waitsInEX, waits, countAt, last-count, behaviour}
+use Rattle.machine.proofs.Derivation.{waitsInPre, waitsInEX, waits, countAt, last-count, behaviour}
 use Rattle.machine.proofs.Bridge.{bridge}
-use Rattle.machine.proofs.Finish.{lastLeaves, leaves-by, last-leaves-by, finish-is}
+use Rattle.machine.proofs.Finish.{leaves-by, last-leaves-by, finish-is}
 use Rattle.machine.proofs.Monotone.{SlowerBehaviour, enters-later, not-further}
 
 -- what a miss costs, where the kind has the access

@@ -10,7 +10,7 @@ use Rattle.machine.specs.Instruction.{Kind, plain, load, store, branch, 
 use Rattle.machine.specs.Rules.{IF, EX, MEM, isLoad, isStore, entry, reads, missesData}
 use Rattle.machine.proofs.Numbers.{Last, before, at, last}
 use Rattle.machine.proofs.Tests.{Outcome, passes, fails, outcome}
-use Rattle.machine.proofs.Schedule.{Behaviour, shares, Together, early, late, together, shares-last, enters, done, own, share, wait, least}
+use Rattle.machine.proofs.Schedule.{shares, Together, early, late, together, shares-last, enters, done, own, share, wait, least}
 use Rattle.machine.proofs.Derivation.{waitsInID, waitsInEX, waits, countAt, last-count, behaviour}
 use Rattle.machine.proofs.Dominance.{previous, le-previous, previous-le, share-early, lastDone, last-done-le}
 use Rattle.machine.proofs.FetchTime.{loads, stores, load-done, store-done, done-pre}

@@ -7,9 +7,9 @@ use native.Mathlib.Omega.{arith}
 use lib.Dec.{leb, ltb}
 use borrow.Author.Tests.{leb-true, leb-false, le-leb, lt-leb, ltb-true, ltb-false, lt-ltb, le-ltb}
 use Rattle.machine.specs.Test.{_and_, _or_}
-use Rattle.machine.specs.Rules.{Stage, pre, post, rank, same, Place, Places, further, shortOf}
+use Rattle.machine.specs.Rules.{pre, post, rank, same, Place, Places, further, shortOf}
 use Rattle.machine.proofs.Numbers.{Tri, less, equal, more, tri, Last, before, at, last}
-use Rattle.machine.proofs.Tests.{Outcome, passes, fails, outcome, is-same, same-fails, and-fails-l, and-passes, or-passes-l, or-passes-r, or-fails, or-left, and-left}
+use Rattle.machine.proofs.Tests.{Outcome, passes, fails, outcome, is-same, same-fails, and-fails-l, or-passes-l, or-fails, or-left, and-left}
 use Rattle.machine.proofs.Schedule.{Behaviour, enters, done, starts, own}
 use Rattle.machine.proofs.Levels.{stageAt, rank-stage, same-level}
 

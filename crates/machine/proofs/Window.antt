@@ -2,7 +2,7 @@
 -- of the finishing time and of a run; the finite memory suffices because the instruction directly before, and the last branch, load and
 -- store, dominate all older ones.
 use Prim.Native.Nat.{ℕ, zero, suc, _+_, _-_, max}
-use mathlib.Core.Bool.{Bool, true, false, cond}
+use mathlib.Core.Bool.{cond}
 use lib.Dec.{ltb}
 use Rattle.machine.specs.Instruction.{Instruction, Trace, instruction}
 use Rattle.machine.specs.Rules.{pre, IF, ID, EX, MEM, ST, WB, post, Place, isLoad, isStore, isBranch, hits, entry, reads, missesData}

@@ -1,16 +1,16 @@
 -- All times in the window, and all that are computed from it, lie within the bound of the instructions so far: sums of 32 bits do not wrap.
-use Prim.Native.Nat.{ℕ, zero, suc, _+_, _≤_, _<_}
+use Prim.Native.Nat.{ℕ, zero, suc, _≤_, _<_}
 use mathlib.Core.Bool.{Bool}
-use mathlib.Core.Path.{_≡_, refl, sym, subst}
+use mathlib.Core.Path.{sym, subst}
 use native.Mathlib.Omega.{arith}
 use lib.ListN.{length, take}
 use Rattle.machine.specs.Instruction.{Trace, instruction}
 use Rattle.machine.specs.Rules.{isLoad, isStore, isBranch}
 use Rattle.machine.specs.Time.{bound}
-use Rattle.machine.proofs.Schedule.{Behaviour, enters, done, own}
+use Rattle.machine.proofs.Schedule.{enters, own}
 use Rattle.machine.proofs.Derivation.{behaviour}
 use Rattle.machine.proofs.Bounds.{times-within}
-use Rattle.machine.proofs.Finish.{lastLeaves, last-leaves-by}
+use Rattle.machine.proofs.Finish.{last-leaves-by}
 use Rattle.machine.proofs.Dominance.{previous, lastDone, last-done-le}
 use Rattle.machine.proofs.FetchTime.{branches, loads, stores}
 use Rattle.machine.proofs.Window.{Window, Times, windowBefore, timesAt}

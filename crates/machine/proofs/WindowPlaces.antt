@@ -1,20 +1,20 @@
 -- Where an instruction stands after t cycles, from its six times: it has come as far as the times that t has reached, and its count is the entry
 -- count less the cycles since, cut at 0. The bridge in the form that the code of a run has.
-use Prim.Native.Nat.{ℕ, zero, suc, _+_, _-_, _≤_, _<_}
-use mathlib.Core.Bool.{Bool, true, false, cond}
-use mathlib.Core.Path.{_≡_, refl, sym, ap, subst, _∙_}
+use Prim.Native.Nat.{ℕ, zero, suc, _-_, _≤_, _<_}
+use mathlib.Core.Bool.{true, false}
+use mathlib.Core.Path.{_≡_, refl, sym, ap, _∙_}
 use native.Mathlib.Nat.{zero-sub}
 use native.Mathlib.Omega.{arith}
 use lib.Dec.{ltb}
 use lib.ListN.{length}
 use borrow.Author.Tests.{lt-ltb, le-ltb}
-use Rattle.machine.specs.Instruction.{Instruction, Trace, instruction}
-use Rattle.machine.specs.Rules.{isStore, entry, Place, after}
-use Rattle.machine.proofs.Schedule.{Behaviour, enters}
+use Rattle.machine.specs.Instruction.{Trace, instruction}
+use Rattle.machine.specs.Rules.{entry, after}
+use Rattle.machine.proofs.Schedule.{enters}
 use Rattle.machine.proofs.Standing.{Stands, stands, standing, scheduled, already, not-yet}
-use Rattle.machine.proofs.Derivation.{countAt, behaviour}
+use Rattle.machine.proofs.Derivation.{behaviour}
 use Rattle.machine.proofs.Bridge.{place-is, bridge}
-use Rattle.machine.proofs.Window.{Times, lastCount, timesAt, placeAt}
+use Rattle.machine.proofs.Window.{timesAt, placeAt}
 use Rattle.machine.proofs.WindowTimes.{scheduledTimes, window-times, last-count-is}
 
 module _ (trace : Trace) (t k : ℕ) where

@@ -1,20 +1,16 @@
 -- The window before an instruction holds what the closed form needs, so its times are the schedule's; the finishing time and every place follow.
 -- What the code of the finishing time and of a run is proved against.
-use Prim.Native.Nat.{ℕ, zero, suc, _+_, _-_, _≤_, _<_, max}
-use mathlib.Core.Bool.{Bool, true, false, cond}
-use mathlib.Core.Path.{_≡_, refl, sym, ap, subst, _∙_}
-use native.Mathlib.Omega.{arith}
-use lib.Dec.{ltb}
-use lib.ListN.{length, take}
+use Prim.Native.Nat.{ℕ, zero, suc}
+use mathlib.Core.Path.{_≡_, refl, sym, ap, _∙_}
+use lib.ListN.{length}
 use Rattle.machine.specs.Instruction.{Instruction, Trace, instruction}
-use Rattle.machine.specs.Rules.{isStore, isLoad, isBranch, entry, Place, after}
-use Rattle.machine.specs.Time.{bound, finish}
+use Rattle.machine.specs.Rules.{isStore, entry}
+use Rattle.machine.specs.Time.{finish}
 use Rattle.machine.proofs.Numbers.{greatest}
-use Rattle.machine.proofs.Schedule.{Behaviour, enters, done, own}
+use Rattle.machine.proofs.Schedule.{Behaviour, enters, done}
 use Rattle.machine.proofs.Derivation.{countAt, last-count, behaviour}
-use Rattle.machine.proofs.Bounds.{times-within}
-use Rattle.machine.proofs.Finish.{lastLeaves, last-leaves-by, finish-is}
-use Rattle.machine.proofs.Dominance.{previous, lastDone, last-done-le}
+use Rattle.machine.proofs.Finish.{lastLeaves, finish-is}
+use Rattle.machine.proofs.Dominance.{previous, lastDone}
 use Rattle.machine.proofs.FetchTime.{branches, loads, stores, at-IF}
 use Rattle.machine.proofs.StageTimes.{targetBefore, at-ID, at-EX, at-MEM, at-last, at-post}
 use Rattle.machine.proofs.Window.{Window, Times, noWindow, enterIF, enterID, enterEX, enterMEM, enterLast, lastCount, enterPost, timesFrom, slide, windowBefore, timesAt}
