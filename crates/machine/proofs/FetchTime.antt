@@ -11,34 +11,12 @@ use Rattle.machine.proofs.Schedule.{Behaviour, shares-early, shares-las
 use Rattle.machine.proofs.Derivation.{waitsInPre, waits, behaviour}
 use Rattle.machine.proofs.Dominance.{previous, le-previous, previous-le, lastDone, last-done-le, le-last-done}
 
--- when the last branch, load and store before k are done
-unfoldable pub branches : Trace → ℕ → ℕ
-branches trace k = lastDone (behaviour trace) (λ j. isBranch (instruction trace j .kind)) 3 k
-
-unfoldable pub loads : Trace → ℕ → ℕ
-loads trace k = lastDone (behaviour trace) (λ j. isLoad (instruction trace j .kind)) 4 k
-
-unfoldable pub stores : Trace → ℕ → ℕ
-stores trace k = lastDone (behaviour trace) (λ j. isStore (instruction trace j .kind)) 5 k
-
-branch-done : (trace : Trace) (k j : ℕ) → j < k → isBranch (instruction trace j .kind) ≡ true → done (behaviour trace) j 3 ≤ branches trace k
-unfolding branches
-branch-done trace = le-last-done (behaviour trace) (λ j. isBranch (instruction trace j .kind)) 3 (omega arith) (λ i j p q. shares-early (behaviour trace) i j 3 (omega arith))
-
-pub load-done : (trace : Trace) (k j : ℕ) → j < k → isLoad (instruction trace j .kind) ≡ true → done (behaviour trace) j 4 ≤ loads trace k
-unfolding loads
-load-done trace = le-last-done (behaviour trace) (λ j. isLoad (instruction trace j .kind)) 4 (omega arith) (λ i j p q. shares-early (behaviour trace) i j 4 (omega arith))
-
-pub store-done : (trace : Trace) (k j : ℕ) → j < k → isStore (instruction trace j .kind) ≡ true → done (behaviour trace) j 5 ≤ stores trace k
-unfolding stores behaviour
-store-done trace = le-last-done (behaviour trace) (λ j. isStore (instruction trace j .kind)) 5 (omega arith) (λ i j p q. shares-last (behaviour trace) i j (q ∙ sym p))
-
 -- not waiting costs nothing
 pub done-pre : (b : Behaviour) (j : ℕ) → done b j 0 ≡ 1
 unfolding done
 done-pre b j = let p = starts b j in let q = b .count-in-pre j in omega arith
 
--- IF
+-- what a fetch waits for
 pre-within : (kind : Kind) (fetchHits : Bool) (d : ℕ → ℕ) (x y z : ℕ) → d 0 ≡ 1 →
     (isBranch kind ≡ true → d 3 ≤ x) →
     (isLoad kind ≡ true → d 4 ≤ y) →
@@ -73,34 +51,60 @@ store-waits load e = absurd (false≢true e)
 store-waits store e = refl
 store-waits branch e = absurd (false≢true e)
 
-missing-waits : (trace : Trace) (k : ℕ) → Outcome (hits (instruction trace k .fetch)) →
-    cond (hits (instruction trace k .fetch)) 0 (max (loads trace k) (stores trace k)) ≤ enters (behaviour trace) k 1
-unfolding loads stores behaviour waits
-missing-waits trace k (passes e) = rw e (omega arith)
-missing-waits trace k (fails e) =
-    rw e
-    (max-le
-    (last-done-le (behaviour trace) (λ j. isLoad (instruction trace j .kind)) 4 k (enters (behaviour trace) k 1)
-    (λ j l f. subst (λ (x : ℕ). done (behaviour trace) j x ≤ enters (behaviour trace) k 1) (ap (waitsInPre (instruction trace j .kind)) e ∙ load-waits (instruction trace j .kind) f) (wait (behaviour trace) k j 0 l)))
-    (last-done-le (behaviour trace) (λ j. isStore (instruction trace j .kind)) 5 k (enters (behaviour trace) k 1)
-    (λ j l f. subst (λ (x : ℕ). done (behaviour trace) j x ≤ enters (behaviour trace) k 1) (ap (waitsInPre (instruction trace j .kind)) e ∙ store-waits (instruction trace j .kind) f) (wait (behaviour trace) k j 0 l))))
+module _ (trace : Trace) where
+  abbrev b : Behaviour
+  b = behaviour trace
 
-pub at-IF : (trace : Trace) (k : ℕ) →
-    enters (behaviour trace) k 1
-    ≡ max (max 1 (previous (behaviour trace) k 2)) (max (branches trace k) (cond (hits (instruction trace k .fetch)) 0 (max (loads trace k) (stores trace k))))
-unfolding branches behaviour waits
-at-IF trace k =
-    le-antisymm
-    (least (behaviour trace) k 0 _
-    (let p = done-pre (behaviour trace) k in omega arith)
-    (λ j l e. let p = le-previous (behaviour trace) k j 1 l (omega arith) (omega arith) in omega arith)
-    (λ j l.
-    let p = pre-within (instruction trace j .kind) (hits (instruction trace k .fetch)) (done (behaviour trace) j) (branches trace k) (loads trace k) (stores trace k)
-    (done-pre (behaviour trace) j) (branch-done trace k j l) (load-done trace k j l) (store-done trace k j l) in
-    omega arith))
-    (max-le
-    (max-le (let p = own (behaviour trace) k 0 in let q = done-pre (behaviour trace) k in omega arith) (previous-le (behaviour trace) k 1 (omega arith) (omega arith)))
-    (max-le
-    (last-done-le (behaviour trace) (λ j. isBranch (instruction trace j .kind)) 3 k (enters (behaviour trace) k 1)
-    (λ j l e. subst (λ (x : ℕ). done (behaviour trace) j x ≤ enters (behaviour trace) k 1) (branch-waits (instruction trace j .kind) (hits (instruction trace k .fetch)) e) (wait (behaviour trace) k j 0 l)))
-    (missing-waits trace k (outcome (hits (instruction trace k .fetch))))))
+  -- when the last branch, load and store before k are done
+  unfoldable pub branches : ℕ → ℕ
+  branches k = lastDone b (λ j. isBranch (instruction trace j .kind)) 3 k
+
+  unfoldable pub loads : ℕ → ℕ
+  loads k = lastDone b (λ j. isLoad (instruction trace j .kind)) 4 k
+
+  unfoldable pub stores : ℕ → ℕ
+  stores k = lastDone b (λ j. isStore (instruction trace j .kind)) 5 k
+
+  branch-done : (k j : ℕ) → j < k → isBranch (instruction trace j .kind) ≡ true → done b j 3 ≤ branches k
+  unfolding branches
+  branch-done = le-last-done b (λ j. isBranch (instruction trace j .kind)) 3 (omega arith) (λ i j p q. shares-early b i j 3 (omega arith))
+
+  pub load-done : (k j : ℕ) → j < k → isLoad (instruction trace j .kind) ≡ true → done b j 4 ≤ loads k
+  unfolding loads
+  load-done = le-last-done b (λ j. isLoad (instruction trace j .kind)) 4 (omega arith) (λ i j p q. shares-early b i j 4 (omega arith))
+
+  pub store-done : (k j : ℕ) → j < k → isStore (instruction trace j .kind) ≡ true → done b j 5 ≤ stores k
+  unfolding stores behaviour
+  store-done = le-last-done b (λ j. isStore (instruction trace j .kind)) 5 (omega arith) (λ i j p q. shares-last b i j (q ∙ sym p))
+
+  missing-waits : (k : ℕ) → Outcome (hits (instruction trace k .fetch)) →
+      cond (hits (instruction trace k .fetch)) 0 (max (loads k) (stores k)) ≤ enters b k 1
+  unfolding loads stores behaviour waits
+  missing-waits k (passes e) = rw e (omega arith)
+  missing-waits k (fails e) =
+      rw e
+      (max-le
+      (last-done-le b (λ j. isLoad (instruction trace j .kind)) 4 k (enters b k 1)
+      (λ j l f. subst (λ (x : ℕ). done b j x ≤ enters b k 1) (ap (waitsInPre (instruction trace j .kind)) e ∙ load-waits (instruction trace j .kind) f) (wait b k j 0 l)))
+      (last-done-le b (λ j. isStore (instruction trace j .kind)) 5 k (enters b k 1)
+      (λ j l f. subst (λ (x : ℕ). done b j x ≤ enters b k 1) (ap (waitsInPre (instruction trace j .kind)) e ∙ store-waits (instruction trace j .kind) f) (wait b k j 0 l))))
+
+  pub at-IF : (k : ℕ) →
+      enters b k 1
+      ≡ max (max 1 (previous b k 2)) (max (branches k) (cond (hits (instruction trace k .fetch)) 0 (max (loads k) (stores k))))
+  unfolding branches behaviour waits
+  at-IF k =
+      le-antisymm
+      (least b k 0 _
+      (let p = done-pre b k in omega arith)
+      (λ j l e. let p = le-previous b k j 1 l (omega arith) (omega arith) in omega arith)
+      (λ j l.
+      let p = pre-within (instruction trace j .kind) (hits (instruction trace k .fetch)) (done b j) (branches k) (loads k) (stores k)
+      (done-pre b j) (branch-done k j l) (load-done k j l) (store-done k j l) in
+      omega arith))
+      (max-le
+      (max-le (let p = own b k 0 in let q = done-pre b k in omega arith) (previous-le b k 1 (omega arith) (omega arith)))
+      (max-le
+      (last-done-le b (λ j. isBranch (instruction trace j .kind)) 3 k (enters b k 1)
+      (λ j l e. subst (λ (x : ℕ). done b j x ≤ enters b k 1) (branch-waits (instruction trace j .kind) (hits (instruction trace k .fetch)) e) (wait b k j 0 l)))
+      (missing-waits k (outcome (hits (instruction trace k .fetch))))))

@@ -33,26 +33,6 @@ last-leaves-by b n m h =
     let p = greatest-le 0 (λ i. enters b i 6) n 0 m (omega arith) (λ k l. let q = h k l in omega arith) in
     omega arith
 
-left-at : (trace : Trace) (t i : ℕ) → i < length trace → same (after trace t i .stage) post ≡ leb (enters (behaviour trace) i 6) t
-left-at trace t i l = ap (λ (p : Place). same (p .stage) post) (bridge trace t i l) ∙ in-post (behaviour trace) t i
-
-pub all-left-at : (trace : Trace) (t : ℕ) → allLeft trace (after trace t) ≡ leb (lastLeaves (behaviour trace) (length trace)) t
-unfolding allLeft
-all-left-at trace t =
-    equal-tests _ _
-    (λ e.
-    le-leb (lastLeaves (behaviour trace) (length trace)) t
-    (last-leaves-by (behaviour trace) (length trace) t
-    (λ i l.
-    leb-true (enters (behaviour trace) i 6) t
-    (sym (left-at trace t i l) ∙ every-at (λ i. same (after trace t i .stage) post) (length trace) e i l))))
-    (λ e.
-    every-passes (λ i. same (after trace t i .stage) post) (length trace)
-    (λ i l.
-    left-at trace t i l
-    ∙ le-leb (enters (behaviour trace) i 6) t
-    (let p = leb-true (lastLeaves (behaviour trace) (length trace)) t e in let q = leaves-by (behaviour trace) (length trace) i l in omega arith)))
-
 -- the search finds a time before which the test fails and at which it passes
 least-from : (test : ℕ → Bool) (tries t goal : ℕ) →
     ((u : ℕ) → u < goal → test u ≡ false) →
@@ -69,20 +49,44 @@ least-from test (suc tries) t goal h p l m = pick (least-from test tries (suc t)
     pick ih (equal e) = rw (ap test e ∙ p, leastFrom) e
     pick ih (more k) = absurd (omega arith)
 
-leaves-within : (trace : Trace) → lastLeaves (behaviour trace) (length trace) ≤ bound trace
-leaves-within trace =
-    last-leaves-by (behaviour trace) (length trace) (bound trace)
-    (λ i l. let p = times-within trace (suc i) i 6 (omega arith) l (omega arith) in let q = bound-take trace (suc i) in omega arith)
+module _ (trace : Trace) where
+  abbrev b : Behaviour
+  b = behaviour trace
 
-pub finish-is : (trace : Trace) → finish trace ≡ lastLeaves (behaviour trace) (length trace)
-unfolding finish
-finish-is trace =
-    least-from (λ t. allLeft trace (after trace t)) (bound trace) 0 (lastLeaves (behaviour trace) (length trace))
-    (λ u l. all-left-at trace u ∙ lt-leb (lastLeaves (behaviour trace) (length trace)) u l)
-    (all-left-at trace (lastLeaves (behaviour trace) (length trace))
-    ∙ le-leb (lastLeaves (behaviour trace) (length trace)) (lastLeaves (behaviour trace) (length trace)) (omega arith))
-    (omega arith)
-    (let p = leaves-within trace in omega arith)
+  left-at : (t i : ℕ) → i < length trace → same (after trace t i .stage) post ≡ leb (enters b i 6) t
+  left-at t i l = ap (λ (p : Place). same (p .stage) post) (bridge trace t i l) ∙ in-post b t i
+
+  pub all-left-at : (t : ℕ) → allLeft trace (after trace t) ≡ leb (lastLeaves b (length trace)) t
+  unfolding allLeft
+  all-left-at t =
+      equal-tests _ _
+      (λ e.
+      le-leb (lastLeaves b (length trace)) t
+      (last-leaves-by b (length trace) t
+      (λ i l.
+      leb-true (enters b i 6) t
+      (sym (left-at t i l) ∙ every-at (λ i. same (after trace t i .stage) post) (length trace) e i l))))
+      (λ e.
+      every-passes (λ i. same (after trace t i .stage) post) (length trace)
+      (λ i l.
+      left-at t i l
+      ∙ le-leb (enters b i 6) t
+      (let p = leb-true (lastLeaves b (length trace)) t e in let q = leaves-by b (length trace) i l in omega arith)))
+
+  leaves-within : lastLeaves b (length trace) ≤ bound trace
+  leaves-within =
+      last-leaves-by b (length trace) (bound trace)
+      (λ i l. let p = times-within trace (suc i) i 6 (omega arith) l (omega arith) in let q = bound-take trace (suc i) in omega arith)
+
+  pub finish-is : finish trace ≡ lastLeaves b (length trace)
+  unfolding finish
+  finish-is =
+      least-from (λ t. allLeft trace (after trace t)) (bound trace) 0 (lastLeaves b (length trace))
+      (λ u l. all-left-at u ∙ lt-leb (lastLeaves b (length trace)) u l)
+      (all-left-at (lastLeaves b (length trace))
+      ∙ le-leb (lastLeaves b (length trace)) (lastLeaves b (length trace)) (omega arith))
+      (omega arith)
+      (let p = leaves-within in omega arith)
 
 pub finish-is-least : FinishIsLeast
 finish-is-least trace =

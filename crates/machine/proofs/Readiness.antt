@@ -10,7 +10,7 @@ use Rattle.machine.specs.Test.{_and_, _or_, none}
 use Rattle.machine.specs.Instruction.{Kind, plain, load, store, branch, Instruction, Trace, instruction}
 use Rattle.machine.specs.Rules.{pre, EX, MEM, ST, same, Place, Places, shortOf, isLoad, isStore, isBranch, hits, noOlder, reads, missesData, readyIn}
 use Rattle.machine.proofs.Tests.{Outcome, passes, fails, outcome, and-true, and-false, and-fails-l, or-l, or-r, or-false, or-fails, none-at, none-passes, none-same, none-false, none-or, or-none, not-or-none}
-use Rattle.machine.proofs.Schedule.{enters, done}
+use Rattle.machine.proofs.Schedule.{Behaviour, enters, done}
 use Rattle.machine.proofs.Levels.{stageAt}
 use Rattle.machine.proofs.Standing.{scheduled, isShort, short-of, in-pre, never-short}
 use Rattle.machine.proofs.Derivation.{waitsInPre, waitsInID, waitsInEX, waits, behaviour}
@@ -91,95 +91,87 @@ inPre : ℕ → Bool → Bool
 inPre zero x = x
 inPre (suc s) x = false
 
-store-short : (trace : Trace) (t j : ℕ) →
-    let b = behaviour trace in
-    let kind = instruction trace j .kind in
-    isStore kind and shortOf (scheduled b t j) ST 0 ≡ isStore kind and isShort b t j 5
-unfolding behaviour
-store-short trace t j = pick (outcome (isStore (instruction trace j .kind)))
-  where
-    pick : Outcome (isStore (instruction trace j .kind)) →
-        isStore (instruction trace j .kind) and shortOf (scheduled (behaviour trace) t j) ST 0
-        ≡ isStore (instruction trace j .kind) and isShort (behaviour trace) t j 5
-    pick (passes e) = ap (λ (x : Bool). isStore (instruction trace j .kind) and x)
-        (subst (λ (x : Bool). shortOf (scheduled (behaviour trace) t j) (stageAt x 5) 0 ≡ isShort (behaviour trace) t j 5) e
-        (short-of (behaviour trace) t j 5 (omega arith)))
-    pick (fails e) = rw e (and-fails-l _ _ refl ∙ sym (and-fails-l _ _ refl))
-
-held-short : (trace : Trace) (t j s : ℕ) (i : Instruction) →
-    let b = behaviour trace in
-    held s i (instruction trace j) (scheduled b t j) ≡ inPre s (ltb t (enters b j 1)) or isShort b t j (waits s i (instruction trace j))
-unfolding held inPre waits behaviour _or_
-held-short trace t j zero i =
-    let b = behaviour trace in
-    let branches : shortOf (scheduled b t j) EX 0 ≡ isShort b t j 3 = short-of b t j 3 (omega arith) in
-    let loads : shortOf (scheduled b t j) MEM 0 ≡ isShort b t j 4 = short-of b t j 4 (omega arith) in
-    rw (in-pre b t j, branches, loads, store-short trace t j)
-    (held-pre (isShort b t j) (never-short b t j) (instruction trace j .kind) (hits (i .fetch)) (ltb t (enters b j 1)))
-held-short trace t j (suc zero) i = sym (never-short (behaviour trace) t j)
-held-short trace t j (suc (suc zero)) i =
-    let b = behaviour trace in
-    let loads : shortOf (scheduled b t j) MEM 0 ≡ isShort b t j 4 = short-of b t j 4 (omega arith) in
-    rw loads (held-ID (isShort b t j) (never-short b t j) (instruction trace j .kind) (reads i (instruction trace j .target)))
-held-short trace t j (suc (suc (suc zero))) i =
-    let b = behaviour trace in
-    rw (store-short trace t j) (held-EX (isShort b t j) (never-short b t j) (instruction trace j .kind) (missesData i))
-held-short trace t j (suc (suc (suc (suc s)))) i = sym (never-short (behaviour trace) t j)
-
--- Readiness, where the places below n are the schedule's, says that the older ones have come as far as the instruction waits for.
-behindOlder : Trace → ℕ → ℕ → ℕ → ℕ → Bool
-behindOlder trace t i s j =
-    let b = behaviour trace in
-    inPre s (ltb t (enters b j 1)) or isShort b t j (b .until i s j)
-
-ready-schedule : (trace : Trace) (t : ℕ) (places : Places) (i s : ℕ) →
-    ((j : ℕ) → j < i → places j ≡ scheduled (behaviour trace) t j) →
-    readyIn (stageAt (behaviour trace .lane i) s) trace places i ≡ none (behindOlder trace t i s) i
-unfolding behindOlder behaviour
-ready-schedule trace t places i s h =
-    ready-held (behaviour trace .lane i) s trace places i
-    ∙ none-same _ _ i (λ j l. ap (held s (instruction trace i) (instruction trace j)) (h j l) ∙ held-short trace t j s (instruction trace i))
-
-pub ready-waits : (trace : Trace) (t : ℕ) (places : Places) (i s : ℕ) →
-    ((j : ℕ) → j < i → places j ≡ scheduled (behaviour trace) t j) →
-    readyIn (stageAt (behaviour trace .lane i) s) trace places i ≡ true →
-    (j : ℕ) →
-    j < i →
-    done (behaviour trace) j (behaviour trace .until i s j) ≤ suc t
-unfolding behindOlder isShort done
-ready-waits trace t places i s h e j l =
-    let b = behaviour trace in
-    let p = or-r _ _ (none-at (behindOlder trace t i s) i (sym (ready-schedule trace t places i s h) ∙ e) j l) in
-    let q = ltb-false t (enters b j (b .until i s j) + b .count j (b .until i s j)) p in
-    omega arith
-
-pub ready-leaves-pre : (trace : Trace) (t : ℕ) (places : Places) (i : ℕ) →
-    ((j : ℕ) → j < i → places j ≡ scheduled (behaviour trace) t j) →
-    readyIn pre trace places i ≡ true →
-    (j : ℕ) →
-    j < i →
-    enters (behaviour trace) j 1 ≤ t
-unfolding behindOlder inPre
-ready-leaves-pre trace t places i h e j l =
-    ltb-false t (enters (behaviour trace) j 1) (or-l _ _ (none-at (behindOlder trace t i 0) i (sym (ready-schedule trace t places i 0 h) ∙ e) j l))
-
 first-fails : (s : ℕ) (x : Bool) → (s ≡ 0 → x ≡ false) → inPre s x ≡ false
 unfolding inPre
 first-fails zero x h = h refl
 first-fails (suc s) x h = refl
 
-pub waits-ready : (trace : Trace) (t : ℕ) (places : Places) (i s : ℕ) →
-    ((j : ℕ) → j < i → places j ≡ scheduled (behaviour trace) t j) →
-    ((j : ℕ) → j < i → done (behaviour trace) j (behaviour trace .until i s j) ≤ suc t) →
-    ((j : ℕ) → j < i → s ≡ 0 → enters (behaviour trace) j 1 ≤ t) →
-    readyIn (stageAt (behaviour trace .lane i) s) trace places i ≡ true
-unfolding behindOlder isShort done
-waits-ready trace t places i s h w first =
-    let b = behaviour trace in
-    ready-schedule trace t places i s h
-    ∙ none-passes (behindOlder trace t i s) i
-    (λ j l.
-    let c = w j l in
-    or-fails _ _
-    (first-fails s (ltb t (enters b j 1)) (λ z. le-ltb t (enters b j 1) (first j l z)))
-    (le-ltb t (enters b j (b .until i s j) + b .count j (b .until i s j)) (omega arith)))
+fails-first : (s : ℕ) (x : Bool) → inPre s x ≡ false → s ≡ 0 → x ≡ false
+unfolding inPre
+fails-first zero x h z = h
+fails-first (suc s) x h z = absurd (omega arith)
+
+module _ (trace : Trace) where
+  abbrev b : Behaviour
+  b = behaviour trace
+
+  abbrev kind : ℕ → Kind
+  kind j = instruction trace j .kind
+
+  -- short of a level, in the rules and in the schedule
+  branch-short : (t j : ℕ) → shortOf (scheduled b t j) EX 0 ≡ isShort b t j 3
+  branch-short t j = short-of b t j 3 (omega arith)
+
+  load-short : (t j : ℕ) → shortOf (scheduled b t j) MEM 0 ≡ isShort b t j 4
+  load-short t j = short-of b t j 4 (omega arith)
+
+  store-short : (t j : ℕ) → isStore (kind j) and shortOf (scheduled b t j) ST 0 ≡ isStore (kind j) and isShort b t j 5
+  unfolding behaviour
+  store-short t j = pick (outcome (isStore (kind j)))
+    where
+      pick : Outcome (isStore (kind j)) → isStore (kind j) and shortOf (scheduled b t j) ST 0 ≡ isStore (kind j) and isShort b t j 5
+      pick (passes e) =
+          ap (λ (x : Bool). isStore (kind j) and x)
+          (subst (λ (x : Bool). shortOf (scheduled b t j) (stageAt x 5) 0 ≡ isShort b t j 5) e (short-of b t j 5 (omega arith)))
+      pick (fails e) = rw e (and-fails-l _ _ refl ∙ sym (and-fails-l _ _ refl))
+
+  held-short : (t j s : ℕ) (i : Instruction) →
+      held s i (instruction trace j) (scheduled b t j) ≡ inPre s (ltb t (enters b j 1)) or isShort b t j (waits s i (instruction trace j))
+  unfolding held inPre waits _or_
+  held-short t j zero i =
+      rw (in-pre b t j, branch-short t j, load-short t j, store-short t j)
+      (held-pre (isShort b t j) (never-short b t j) (kind j) (hits (i .fetch)) (ltb t (enters b j 1)))
+  held-short t j (suc zero) i = sym (never-short b t j)
+  held-short t j (suc (suc zero)) i =
+      rw (load-short t j) (held-ID (isShort b t j) (never-short b t j) (kind j) (reads i (instruction trace j .target)))
+  held-short t j (suc (suc (suc zero))) i =
+      rw (store-short t j) (held-EX (isShort b t j) (never-short b t j) (kind j) (missesData i))
+  held-short t j (suc (suc (suc (suc s)))) i = sym (never-short b t j)
+
+  -- j holds back instruction i at level s
+  behind : ℕ → ℕ → ℕ → ℕ → Bool
+  behind t i s j = inPre s (ltb t (enters b j 1)) or isShort b t j (b .until i s j)
+
+  module _ (t : ℕ) (places : Places) (i s : ℕ) (described : (j : ℕ) → j < i → places j ≡ scheduled b t j) where
+    ready-schedule : readyIn (stageAt (b .lane i) s) trace places i ≡ none (behind t i s) i
+    unfolding behind behaviour
+    ready-schedule =
+        ready-held (b .lane i) s trace places i
+        ∙ none-same _ _ i (λ j l. ap (held s (instruction trace i) (instruction trace j)) (described j l) ∙ held-short t j s (instruction trace i))
+
+    not-behind : readyIn (stageAt (b .lane i) s) trace places i ≡ true → (j : ℕ) → j < i → behind t i s j ≡ false
+    not-behind e = none-at (behind t i s) i (sym ready-schedule ∙ e)
+
+    pub ready-waits : readyIn (stageAt (b .lane i) s) trace places i ≡ true → (j : ℕ) → j < i → done b j (b .until i s j) ≤ suc t
+    unfolding behind isShort done
+    ready-waits e j l =
+        let p = ltb-false t (enters b j (b .until i s j) + b .count j (b .until i s j)) (or-r _ _ (not-behind e j l)) in
+        omega arith
+
+    pub ready-leaves-pre : readyIn (stageAt (b .lane i) s) trace places i ≡ true → s ≡ 0 → (j : ℕ) → j < i → enters b j 1 ≤ t
+    unfolding behind
+    ready-leaves-pre e z j l = ltb-false t (enters b j 1) (fails-first s (ltb t (enters b j 1)) (or-l _ _ (not-behind e j l)) z)
+
+    pub waits-ready :
+        ((j : ℕ) → j < i → done b j (b .until i s j) ≤ suc t) →
+        ((j : ℕ) → j < i → s ≡ 0 → enters b j 1 ≤ t) →
+        readyIn (stageAt (b .lane i) s) trace places i ≡ true
+    unfolding behind isShort done
+    waits-ready waited first = ready-schedule ∙ none-passes (behind t i s) i clear
+      where
+        clear : (j : ℕ) → j < i → behind t i s j ≡ false
+        clear j l =
+            let c = waited j l in
+            or-fails _ _
+            (first-fails s (ltb t (enters b j 1)) (λ z. le-ltb t (enters b j 1) (first j l z)))
+            (le-ltb t (enters b j (b .until i s j) + b .count j (b .until i s j)) (omega arith))

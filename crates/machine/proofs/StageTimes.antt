@@ -10,28 +10,12 @@ use Rattle.machine.specs.Instruction.{Kind, plain, load, store, branch, 
 use Rattle.machine.specs.Rules.{IF, EX, MEM, isLoad, isStore, entry, reads, missesData}
 use Rattle.machine.proofs.Numbers.{Last, before, at, last}
 use Rattle.machine.proofs.Tests.{Outcome, passes, fails, outcome}
-use Rattle.machine.proofs.Schedule.{shares, Together, early, late, together, shares-last, enters, done, own, share, wait, least}
+use Rattle.machine.proofs.Schedule.{Behaviour, shares, Together, early, late, together, shares-last, enters, done, own, share, wait, least}
 use Rattle.machine.proofs.Derivation.{waitsInID, waitsInEX, waits, countAt, last-count, behaviour}
 use Rattle.machine.proofs.Dominance.{previous, le-previous, previous-le, share-early, lastDone, last-done-le}
 use Rattle.machine.proofs.FetchTime.{loads, stores, load-done, store-done, done-pre}
 
--- ID
-pub at-ID : (trace : Trace) (k : ℕ) →
-    enters (behaviour trace) k 2 ≡ max (enters (behaviour trace) k 1 + entry (instruction trace k) IF + 1) (previous (behaviour trace) k 3)
-unfolding behaviour waits done
-at-ID trace k =
-    le-antisymm
-    (least (behaviour trace) k 1 _
-    (omega arith)
-    (λ j l e. let p = le-previous (behaviour trace) k j 2 l (omega arith) (omega arith) in omega arith)
-    (λ j l. let p = done-pre (behaviour trace) j in omega arith))
-    (max-le (own (behaviour trace) k 1) (previous-le (behaviour trace) k 2 (omega arith) (omega arith)))
-
--- EX
-unfoldable pub targetBefore : Trace → ℕ → ℕ
-targetBefore trace zero = 0
-targetBefore trace (suc k) = cond (isLoad (instruction trace k .kind)) (instruction trace k .target) 0
-
+-- what an instruction in ID and in EX waits for
 ID-within : (kind : Kind) (readsTarget : Bool) (d : ℕ → ℕ) (m : ℕ) → d 0 ≡ 1 → 1 ≤ m → (isLoad kind ≡ true → readsTarget ≡ true → d 4 ≤ m) → d (waitsInID kind readsTarget) ≤ m
 unfolding waitsInID
 ID-within plain r d m o p h = omega arith
@@ -47,59 +31,10 @@ load-before load e = refl
 load-before store e = absurd (false≢true e)
 load-before branch e = absurd (false≢true e)
 
--- only the load directly before matters: an older one has left MEM when that enters it
-older-load : (trace : Trace) (k j : ℕ) → j < k → isLoad (instruction trace j .kind) ≡ true → reads (instruction trace k) (instruction trace j .target) ≡ true →
-    done (behaviour trace) j 4 ≤ max (previous (behaviour trace) k 4) (cond (reads (instruction trace k) (targetBefore trace k)) (loads trace k) 0)
-unfolding previous targetBefore
-older-load trace zero j l e f = absurd (omega arith)
-older-load trace (suc k) j l e f = pick (last j k l)
-  where
-    pick : Last j k → done (behaviour trace) j 4
-        ≤ max (enters (behaviour trace) k 4) (cond (reads (instruction trace (suc k)) (cond (isLoad (instruction trace k .kind)) (instruction trace k .target) 0)) (loads trace (suc k)) 0)
-    pick (before h) = let p = own (behaviour trace) j 4 in let q = share-early (behaviour trace) k j 4 h (omega arith) (omega arith) in omega arith
-    pick (at h) =
-        let g : isLoad (instruction trace k .kind) ≡ true = subst (λ (x : ℕ). isLoad (instruction trace x .kind) ≡ true) h e in
-        let r : reads (instruction trace (suc k)) (instruction trace k .target) ≡ true = subst (λ (x : ℕ). reads (instruction trace (suc k)) (instruction trace x .target) ≡ true) h f in
-        let p = load-done trace (suc k) j l e in
-        rw g (rw r (omega arith))
-
 reads-zero : (i : Instruction) → reads i 0 ≡ false
 unfolding reads _and_
 reads-zero i = refl
 
-load-directly-before : (trace : Trace) (k : ℕ) → cond (reads (instruction trace k) (targetBefore trace k)) (loads trace k) 0 ≤ enters (behaviour trace) k 3
-unfolding targetBefore loads lastDone behaviour waits
-load-directly-before trace zero = rw (reads-zero (instruction trace 0)) (omega arith)
-load-directly-before trace (suc k) = pick (outcome (isLoad (instruction trace k .kind))) (outcome (reads (instruction trace (suc k)) (instruction trace k .target)))
-  where
-    pick : Outcome (isLoad (instruction trace k .kind)) → Outcome (reads (instruction trace (suc k)) (instruction trace k .target)) →
-        cond (reads (instruction trace (suc k)) (cond (isLoad (instruction trace k .kind)) (instruction trace k .target) 0)) (loads trace (suc k)) 0 ≤ enters (behaviour trace) (suc k) 3
-    pick (passes e) (passes f) =
-        rw e
-        (rw f
-        (subst (λ (x : ℕ). done (behaviour trace) k x ≤ enters (behaviour trace) (suc k) 3)
-        (ap (waitsInID (instruction trace k .kind)) f ∙ load-before (instruction trace k .kind) e)
-        (wait (behaviour trace) (suc k) k 2 (omega arith))))
-    pick (passes e) (fails f) = rw e (rw f (omega arith))
-    pick (fails e) r = rw e (rw (reads-zero (instruction trace (suc k))) (omega arith))
-
-pub at-EX : (trace : Trace) (k : ℕ) →
-    enters (behaviour trace) k 3
-    ≡ max (max (enters (behaviour trace) k 2 + 1) (previous (behaviour trace) k 4)) (cond (reads (instruction trace k) (targetBefore trace k)) (loads trace k) 0)
-unfolding behaviour waits done entry
-at-EX trace k =
-    le-antisymm
-    (least (behaviour trace) k 2 _
-    (omega arith)
-    (λ j l e. let p = le-previous (behaviour trace) k j 3 l (omega arith) (omega arith) in omega arith)
-    (λ j l.
-    ID-within (instruction trace j .kind) (reads (instruction trace k) (instruction trace j .target)) (done (behaviour trace) j) _ (done-pre (behaviour trace) j) (omega arith)
-    (λ e f. let p = older-load trace k j l e f in omega arith)))
-    (max-le
-    (max-le (let p = own (behaviour trace) k 2 in omega arith) (previous-le (behaviour trace) k 3 (omega arith) (omega arith)))
-    (load-directly-before trace k))
-
--- MEM
 EX-within : (kind : Kind) (dataMisses : Bool) (d : ℕ → ℕ) (z : ℕ) → d 0 ≡ 1 → (isStore kind ≡ true → d 5 ≤ z) → d (waitsInEX kind dataMisses) ≤ max 1 (cond dataMisses z 0)
 unfolding waitsInEX
 EX-within plain m d z o h = omega arith
@@ -115,84 +50,154 @@ store-before load e = absurd (false≢true e)
 store-before store e = refl
 store-before branch e = absurd (false≢true e)
 
-miss-waits : (trace : Trace) (k : ℕ) → Outcome (missesData (instruction trace k)) → cond (missesData (instruction trace k)) (stores trace k) 0 ≤ enters (behaviour trace) k 4
-unfolding stores behaviour waits
-miss-waits trace k (fails e) = rw e (omega arith)
-miss-waits trace k (passes e) =
-    rw e
-    (last-done-le (behaviour trace) (λ j. isStore (instruction trace j .kind)) 5 k (enters (behaviour trace) k 4)
-    (λ j l f.
-    subst (λ (x : ℕ). done (behaviour trace) j x ≤ enters (behaviour trace) k 4) (ap (waitsInEX (instruction trace j .kind)) e ∙ store-before (instruction trace j .kind) f)
-    (wait (behaviour trace) k j 3 l)))
-
-pub at-MEM : (trace : Trace) (k : ℕ) →
-    enters (behaviour trace) k 4
-    ≡ max (max (enters (behaviour trace) k 3 + entry (instruction trace k) EX + 1) (previous (behaviour trace) k 5)) (cond (missesData (instruction trace k)) (stores trace k) 0)
-unfolding behaviour waits done
-at-MEM trace k =
-    le-antisymm
-    (least (behaviour trace) k 3 _
-    (omega arith)
-    (λ j l e. let p = le-previous (behaviour trace) k j 4 l (omega arith) (omega arith) in omega arith)
-    (λ j l.
-    let p = EX-within (instruction trace j .kind) (missesData (instruction trace k)) (done (behaviour trace) j) (stores trace k) (done-pre (behaviour trace) j) (store-done trace k j l) in
-    omega arith))
-    (max-le
-    (max-le (own (behaviour trace) k 3) (previous-le (behaviour trace) k 4 (omega arith) (omega arith)))
-    (miss-waits trace k (outcome (missesData (instruction trace k)))))
-
--- post: nothing is shared there and nothing waited for
-pub at-post : (trace : Trace) (k : ℕ) → enters (behaviour trace) k 6 ≡ done (behaviour trace) k 5
-unfolding behaviour waits done
-at-post trace k =
-    le-antisymm
-    (least (behaviour trace) k 5 _
-    (omega arith)
-    (λ j l e. none-shares (together (behaviour trace) k j 6 e))
-    (λ j l. let p = done-pre (behaviour trace) j in omega arith))
-    (own (behaviour trace) k 5)
-  where
-    none-shares : {j m n : ℕ} → Together (behaviour trace) k j 6 → m ≤ n
-    none-shares (early l) = absurd (omega arith)
-    none-shares (late l e) = absurd (omega arith)
-
--- the last stage: WB is free in time, ST when the last store is done
-store-free : (trace : Trace) (k : ℕ) → Outcome (isStore (instruction trace k .kind)) → cond (isStore (instruction trace k .kind)) (stores trace k) 0 ≤ enters (behaviour trace) k 5
-unfolding stores behaviour
-store-free trace k (fails e) = rw e (omega arith)
-store-free trace k (passes e) =
-    rw e
-    (last-done-le (behaviour trace) (λ j. isStore (instruction trace j .kind)) 5 k (enters (behaviour trace) k 5)
-    (λ j l f.
-    let p = own (behaviour trace) j 5 in
-    let q = share (behaviour trace) k j 4 l (shares-last (behaviour trace) k j (f ∙ sym e)) in
-    omega arith))
-
 no-count-in-WB : (i : Instruction) → isStore (i .kind) ≡ false → countAt i 5 ≡ 0
 no-count-in-WB i e = last-count i (isStore (i .kind)) ∙ rw e
 
-last-free : (trace : Trace) (k j : ℕ) → j < k → shares (behaviour trace) k j 5 ≡ true →
-    enters (behaviour trace) j 6 ≤ max (done (behaviour trace) k 4) (cond (isStore (instruction trace k .kind)) (stores trace k) 0)
-unfolding behaviour done
-last-free trace k j l e = pick (together (behaviour trace) k j 5 e) (outcome (isStore (instruction trace k .kind)))
-  where
-    pick : Together (behaviour trace) k j 5 → Outcome (isStore (instruction trace k .kind)) →
-        enters (behaviour trace) j 6 ≤ max (done (behaviour trace) k 4) (cond (isStore (instruction trace k .kind)) (stores trace k) 0)
-    pick (early m) o = absurd (omega arith)
-    pick (late m f) (passes o) = rw o (let p = at-post trace j in let q = store-done trace k j l (f ∙ o) in omega arith)
-    pick (late m f) (fails o) =
-        let p = at-post trace j in
-        let q = no-count-in-WB (instruction trace j) (f ∙ o) in
-        let r = share-early (behaviour trace) k j 4 l (omega arith) (omega arith) in
-        omega arith
+module _ (trace : Trace) where
+  abbrev b : Behaviour
+  b = behaviour trace
 
-pub at-last : (trace : Trace) (k : ℕ) →
-    enters (behaviour trace) k 5 ≡ max (enters (behaviour trace) k 4 + entry (instruction trace k) MEM + 1) (cond (isStore (instruction trace k .kind)) (stores trace k) 0)
-unfolding behaviour waits done
-at-last trace k =
-    le-antisymm
-    (least (behaviour trace) k 4 _
-    (omega arith)
-    (last-free trace k)
-    (λ j l. let p = done-pre (behaviour trace) j in omega arith))
-    (max-le (own (behaviour trace) k 4) (store-free trace k (outcome (isStore (instruction trace k .kind)))))
+  -- ID
+  pub at-ID : (k : ℕ) →
+      enters b k 2 ≡ max (enters b k 1 + entry (instruction trace k) IF + 1) (previous b k 3)
+  unfolding behaviour waits done
+  at-ID k =
+      le-antisymm
+      (least b k 1 _
+      (omega arith)
+      (λ j l e. let p = le-previous b k j 2 l (omega arith) (omega arith) in omega arith)
+      (λ j l. let p = done-pre b j in omega arith))
+      (max-le (own b k 1) (previous-le b k 2 (omega arith) (omega arith)))
+
+  -- EX
+  unfoldable pub targetBefore : ℕ → ℕ
+  targetBefore zero = 0
+  targetBefore (suc k) = cond (isLoad (instruction trace k .kind)) (instruction trace k .target) 0
+
+  -- only the load directly before matters: an older one has left MEM when that enters it
+  older-load : (k j : ℕ) → j < k → isLoad (instruction trace j .kind) ≡ true → reads (instruction trace k) (instruction trace j .target) ≡ true →
+      done b j 4 ≤ max (previous b k 4) (cond (reads (instruction trace k) (targetBefore k)) (loads trace k) 0)
+  unfolding previous targetBefore
+  older-load zero j l e f = absurd (omega arith)
+  older-load (suc k) j l e f = pick (last j k l)
+    where
+      pick : Last j k → done b j 4
+          ≤ max (enters b k 4) (cond (reads (instruction trace (suc k)) (cond (isLoad (instruction trace k .kind)) (instruction trace k .target) 0)) (loads trace (suc k)) 0)
+      pick (before h) = let p = own b j 4 in let q = share-early b k j 4 h (omega arith) (omega arith) in omega arith
+      pick (at h) =
+          let g : isLoad (instruction trace k .kind) ≡ true = subst (λ (x : ℕ). isLoad (instruction trace x .kind) ≡ true) h e in
+          let r : reads (instruction trace (suc k)) (instruction trace k .target) ≡ true = subst (λ (x : ℕ). reads (instruction trace (suc k)) (instruction trace x .target) ≡ true) h f in
+          let p = load-done trace (suc k) j l e in
+          rw g (rw r (omega arith))
+
+  load-directly-before : (k : ℕ) → cond (reads (instruction trace k) (targetBefore k)) (loads trace k) 0 ≤ enters b k 3
+  unfolding targetBefore loads lastDone behaviour waits
+  load-directly-before zero = rw (reads-zero (instruction trace 0)) (omega arith)
+  load-directly-before (suc k) = pick (outcome (isLoad (instruction trace k .kind))) (outcome (reads (instruction trace (suc k)) (instruction trace k .target)))
+    where
+      pick : Outcome (isLoad (instruction trace k .kind)) → Outcome (reads (instruction trace (suc k)) (instruction trace k .target)) →
+          cond (reads (instruction trace (suc k)) (cond (isLoad (instruction trace k .kind)) (instruction trace k .target) 0)) (loads trace (suc k)) 0 ≤ enters b (suc k) 3
+      pick (passes e) (passes f) =
+          rw e
+          (rw f
+          (subst (λ (x : ℕ). done b k x ≤ enters b (suc k) 3)
+          (ap (waitsInID (instruction trace k .kind)) f ∙ load-before (instruction trace k .kind) e)
+          (wait b (suc k) k 2 (omega arith))))
+      pick (passes e) (fails f) = rw e (rw f (omega arith))
+      pick (fails e) r = rw e (rw (reads-zero (instruction trace (suc k))) (omega arith))
+
+  pub at-EX : (k : ℕ) →
+      enters b k 3
+      ≡ max (max (enters b k 2 + 1) (previous b k 4)) (cond (reads (instruction trace k) (targetBefore k)) (loads trace k) 0)
+  unfolding behaviour waits done entry
+  at-EX k =
+      le-antisymm
+      (least b k 2 _
+      (omega arith)
+      (λ j l e. let p = le-previous b k j 3 l (omega arith) (omega arith) in omega arith)
+      (λ j l.
+      ID-within (instruction trace j .kind) (reads (instruction trace k) (instruction trace j .target)) (done b j) _ (done-pre b j) (omega arith)
+      (λ e f. let p = older-load k j l e f in omega arith)))
+      (max-le
+      (max-le (let p = own b k 2 in omega arith) (previous-le b k 3 (omega arith) (omega arith)))
+      (load-directly-before k))
+
+  -- MEM
+  miss-waits : (k : ℕ) → Outcome (missesData (instruction trace k)) → cond (missesData (instruction trace k)) (stores trace k) 0 ≤ enters b k 4
+  unfolding stores behaviour waits
+  miss-waits k (fails e) = rw e (omega arith)
+  miss-waits k (passes e) =
+      rw e
+      (last-done-le b (λ j. isStore (instruction trace j .kind)) 5 k (enters b k 4)
+      (λ j l f.
+      subst (λ (x : ℕ). done b j x ≤ enters b k 4) (ap (waitsInEX (instruction trace j .kind)) e ∙ store-before (instruction trace j .kind) f)
+      (wait b k j 3 l)))
+
+  pub at-MEM : (k : ℕ) →
+      enters b k 4
+      ≡ max (max (enters b k 3 + entry (instruction trace k) EX + 1) (previous b k 5)) (cond (missesData (instruction trace k)) (stores trace k) 0)
+  unfolding behaviour waits done
+  at-MEM k =
+      le-antisymm
+      (least b k 3 _
+      (omega arith)
+      (λ j l e. let p = le-previous b k j 4 l (omega arith) (omega arith) in omega arith)
+      (λ j l.
+      let p = EX-within (instruction trace j .kind) (missesData (instruction trace k)) (done b j) (stores trace k) (done-pre b j) (store-done trace k j l) in
+      omega arith))
+      (max-le
+      (max-le (own b k 3) (previous-le b k 4 (omega arith) (omega arith)))
+      (miss-waits k (outcome (missesData (instruction trace k)))))
+
+  -- post: nothing is shared there and nothing waited for
+  pub at-post : (k : ℕ) → enters b k 6 ≡ done b k 5
+  unfolding behaviour waits done
+  at-post k =
+      le-antisymm
+      (least b k 5 _
+      (omega arith)
+      (λ j l e. none-shares (together b k j 6 e))
+      (λ j l. let p = done-pre b j in omega arith))
+      (own b k 5)
+    where
+      none-shares : {j m n : ℕ} → Together b k j 6 → m ≤ n
+      none-shares (early l) = absurd (omega arith)
+      none-shares (late l e) = absurd (omega arith)
+
+  -- the last stage: WB is free in time, ST when the last store is done
+  store-free : (k : ℕ) → Outcome (isStore (instruction trace k .kind)) → cond (isStore (instruction trace k .kind)) (stores trace k) 0 ≤ enters b k 5
+  unfolding stores behaviour
+  store-free k (fails e) = rw e (omega arith)
+  store-free k (passes e) =
+      rw e
+      (last-done-le b (λ j. isStore (instruction trace j .kind)) 5 k (enters b k 5)
+      (λ j l f.
+      let p = own b j 5 in
+      let q = share b k j 4 l (shares-last b k j (f ∙ sym e)) in
+      omega arith))
+
+  last-free : (k j : ℕ) → j < k → shares b k j 5 ≡ true →
+      enters b j 6 ≤ max (done b k 4) (cond (isStore (instruction trace k .kind)) (stores trace k) 0)
+  unfolding behaviour done
+  last-free k j l e = pick (together b k j 5 e) (outcome (isStore (instruction trace k .kind)))
+    where
+      pick : Together b k j 5 → Outcome (isStore (instruction trace k .kind)) →
+          enters b j 6 ≤ max (done b k 4) (cond (isStore (instruction trace k .kind)) (stores trace k) 0)
+      pick (early m) o = absurd (omega arith)
+      pick (late m f) (passes o) = rw o (let p = at-post j in let q = store-done trace k j l (f ∙ o) in omega arith)
+      pick (late m f) (fails o) =
+          let p = at-post j in
+          let q = no-count-in-WB (instruction trace j) (f ∙ o) in
+          let r = share-early b k j 4 l (omega arith) (omega arith) in
+          omega arith
+
+  pub at-last : (k : ℕ) →
+      enters b k 5 ≡ max (enters b k 4 + entry (instruction trace k) MEM + 1) (cond (isStore (instruction trace k .kind)) (stores trace k) 0)
+  unfolding behaviour waits done
+  at-last k =
+      le-antisymm
+      (least b k 4 _
+      (omega arith)
+      (last-free k)
+      (λ j l. let p = done-pre b j in omega arith))
+      (max-le (own b k 4) (store-free k (outcome (isStore (instruction trace k .kind)))))

@@ -20,78 +20,81 @@ unfoldable pub scheduledTimes : Behaviour → ℕ → Times
 scheduledTimes b k =
     record { IF = enters b k 1; ID = enters b k 2; EX = enters b k 3; MEM = enters b k 4; last = enters b k 5; post = enters b k 6 }
 
--- what the window before instruction k holds
-unfoldable pub seen : Trace → ℕ → Window
-seen trace k =
-    let b = behaviour trace in
-    record {
-      ID = previous b k 2;
-      EX = previous b k 3;
-      MEM = previous b k 4;
-      last = previous b k 5;
-      branchDone = branches trace k;
-      loadDone = loads trace k;
-      storeDone = stores trace k;
-      loadTarget = targetBefore trace k;
-      finish = lastLeaves b k;
-    }
-
-seen-IF : (trace : Trace) (k : ℕ) → enterIF (seen trace k) (instruction trace k) ≡ enters (behaviour trace) k 1
-unfolding enterIF seen
-seen-IF trace k = sym (at-IF trace k)
-
-seen-ID : (trace : Trace) (k : ℕ) → enterID (seen trace k) (instruction trace k) (enters (behaviour trace) k 1) ≡ enters (behaviour trace) k 2
-unfolding enterID seen
-seen-ID trace k = sym (at-ID trace k)
-
-seen-EX : (trace : Trace) (k : ℕ) → enterEX (seen trace k) (instruction trace k) (enters (behaviour trace) k 2) ≡ enters (behaviour trace) k 3
-unfolding enterEX seen
-seen-EX trace k = sym (at-EX trace k)
-
-seen-MEM : (trace : Trace) (k : ℕ) → enterMEM (seen trace k) (instruction trace k) (enters (behaviour trace) k 3) ≡ enters (behaviour trace) k 4
-unfolding enterMEM seen
-seen-MEM trace k = sym (at-MEM trace k)
-
-seen-last : (trace : Trace) (k : ℕ) → enterLast (seen trace k) (instruction trace k) (enters (behaviour trace) k 4) ≡ enters (behaviour trace) k 5
-unfolding enterLast seen
-seen-last trace k = sym (at-last trace k)
-
 pub last-count-is : (i : Instruction) → lastCount i ≡ countAt i 5
 unfolding lastCount entry
 last-count-is i = sym (last-count i (isStore (i .kind)))
 
-seen-post : (trace : Trace) (k : ℕ) → enterPost (instruction trace k) (enters (behaviour trace) k 5) ≡ enters (behaviour trace) k 6
-unfolding enterPost done behaviour
-seen-post trace k = rw (last-count-is (instruction trace k)) (sym (at-post trace k))
+module _ (trace : Trace) where
+  abbrev b : Behaviour
+  b = behaviour trace
 
-times-seen : (trace : Trace) (k : ℕ) → timesFrom (seen trace k) (instruction trace k) ≡ scheduledTimes (behaviour trace) k
-unfolding timesFrom scheduledTimes
-times-seen trace k = rw (seen-IF trace k, seen-ID trace k, seen-EX trace k, seen-MEM trace k, seen-last trace k, seen-post trace k)
+  -- what the window before instruction k holds
+  unfoldable pub seen : ℕ → Window
+  seen k =
+      record {
+        ID = previous b k 2;
+        EX = previous b k 3;
+        MEM = previous b k 4;
+        last = previous b k 5;
+        branchDone = branches trace k;
+        loadDone = loads trace k;
+        storeDone = stores trace k;
+        loadTarget = targetBefore trace k;
+        finish = lastLeaves b k;
+      }
 
-slide-seen : (trace : Trace) (k : ℕ) → slide (seen trace k) (instruction trace k) (scheduledTimes (behaviour trace) k) ≡ seen trace (suc k)
-unfolding slide seen scheduledTimes previous branches loads stores lastDone targetBefore lastLeaves greatest done behaviour
-slide-seen trace k = rw (at-post trace k)
+  seen-IF : (k : ℕ) → enterIF (seen k) (instruction trace k) ≡ enters b k 1
+  unfolding enterIF seen
+  seen-IF k = sym (at-IF trace k)
 
-pub window-seen : (trace : Trace) (k : ℕ) → windowBefore trace k ≡ seen trace k
-unfolding windowBefore noWindow seen previous branches loads stores lastDone targetBefore lastLeaves greatest
-window-seen trace zero = refl
-window-seen trace (suc k) = rw (window-seen trace k, times-seen trace k) (slide-seen trace k)
+  seen-ID : (k : ℕ) → enterID (seen k) (instruction trace k) (enters b k 1) ≡ enters b k 2
+  unfolding enterID seen
+  seen-ID k = sym (at-ID trace k)
 
--- the pass: it starts with nothing seen and slides past each instruction
-pub window-starts : (trace : Trace) → windowBefore trace 0 ≡ noWindow
-unfolding windowBefore
-window-starts trace = refl
+  seen-EX : (k : ℕ) → enterEX (seen k) (instruction trace k) (enters b k 2) ≡ enters b k 3
+  unfolding enterEX seen
+  seen-EX k = sym (at-EX trace k)
 
-pub window-slides : (trace : Trace) (k : ℕ) → windowBefore trace (suc k) ≡ slide (windowBefore trace k) (instruction trace k) (timesAt trace k)
-unfolding windowBefore timesAt
-window-slides trace k = refl
+  seen-MEM : (k : ℕ) → enterMEM (seen k) (instruction trace k) (enters b k 3) ≡ enters b k 4
+  unfolding enterMEM seen
+  seen-MEM k = sym (at-MEM trace k)
 
--- the times from the window before instruction k are the schedule's
-pub window-times : (trace : Trace) (k : ℕ) → timesAt trace k ≡ scheduledTimes (behaviour trace) k
-unfolding timesAt
-window-times trace k = rw (window-seen trace k) (times-seen trace k)
+  seen-last : (k : ℕ) → enterLast (seen k) (instruction trace k) (enters b k 4) ≡ enters b k 5
+  unfolding enterLast seen
+  seen-last k = sym (at-last trace k)
 
--- the window after all has the finishing time
-pub window-finish : (trace : Trace) → windowBefore trace (length trace) .finish ≡ finish trace
-unfolding seen
-window-finish trace = ap (λ (w : Window). w .finish) (window-seen trace (length trace)) ∙ sym (finish-is trace)
+  seen-post : (k : ℕ) → enterPost (instruction trace k) (enters b k 5) ≡ enters b k 6
+  unfolding enterPost done behaviour
+  seen-post k = rw (last-count-is (instruction trace k)) (sym (at-post trace k))
+
+  times-seen : (k : ℕ) → timesFrom (seen k) (instruction trace k) ≡ scheduledTimes b k
+  unfolding timesFrom scheduledTimes
+  times-seen k = rw (seen-IF k, seen-ID k, seen-EX k, seen-MEM k, seen-last k, seen-post k)
+
+  slide-seen : (k : ℕ) → slide (seen k) (instruction trace k) (scheduledTimes b k) ≡ seen (suc k)
+  unfolding slide seen scheduledTimes previous branches loads stores lastDone targetBefore lastLeaves greatest done behaviour
+  slide-seen k = rw (at-post trace k)
+
+  pub window-seen : (k : ℕ) → windowBefore trace k ≡ seen k
+  unfolding windowBefore noWindow seen previous branches loads stores lastDone targetBefore lastLeaves greatest
+  window-seen zero = refl
+  window-seen (suc k) = rw (window-seen k, times-seen k) (slide-seen k)
+
+  -- the pass: it starts with nothing seen and slides past each instruction
+  pub window-starts : windowBefore trace 0 ≡ noWindow
+  unfolding windowBefore
+  window-starts = refl
+
+  pub window-slides : (k : ℕ) → windowBefore trace (suc k) ≡ slide (windowBefore trace k) (instruction trace k) (timesAt trace k)
+  unfolding windowBefore timesAt
+  window-slides k = refl
+
+  -- the times from the window before instruction k are the schedule's
+  pub window-times : (k : ℕ) → timesAt trace k ≡ scheduledTimes b k
+  unfolding timesAt
+  window-times k = rw (window-seen k) (times-seen k)
+
+  -- the window after all has the finishing time
+  pub window-finish : windowBefore trace (length trace) .finish ≡ finish trace
+  unfolding seen
+  window-finish = ap (λ (w : Window). w .finish) (window-seen (length trace)) ∙ sym (finish-is trace)
