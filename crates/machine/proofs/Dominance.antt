@@ -1,0 +1,66 @@
+-- Which older instructions decide: of those that share a stage, the one directly before; of those of one kind that are waited for, the
+-- last. Each enters, and is done, no earlier than the ones before it, since they share the stages on the way.
+use Prim.Native.Nat.{ℕ, zero, suc, _≤_, _<_}
+use mathlib.Core.Bool.{Bool, true, cond}
+use mathlib.Core.Path.{_≡_, sym, ap, subst, _∙_}
+use native.Mathlib.Omega.{arith}
+use Rattle.machine.proofs.Numbers.{Last, before, at, last}
+use Rattle.machine.proofs.Tests.{Outcome, passes, fails, outcome, never}
+use Rattle.machine.proofs.Schedule.{Behaviour, shares, shares-early, enters, done, own, share}
+
+-- the instruction directly before k entered a level; 0 where there is none
+unfoldable pub previous : Behaviour → ℕ → ℕ → ℕ
+previous b zero s = 0
+previous b (suc k) s = enters b k s
+
+-- an older instruction enters the next level no later than a younger one the level
+pub share-level : (b : Behaviour) (i j s : ℕ) → j < i → 0 < s → shares b i j s ≡ true → enters b j (suc s) ≤ enters b i s
+share-level b i j zero l p e = absurd (omega arith)
+share-level b i j (suc s) l p e = share b i j s l e
+
+pub share-early : (b : Behaviour) (i j s : ℕ) → j < i → 0 < s → s < 5 → enters b j (suc s) ≤ enters b i s
+share-early b i j s l p m = share-level b i j s l p (shares-early b i j s m)
+
+pub le-previous : (b : Behaviour) (k j s : ℕ) → j < k → 0 < s → s < 5 → enters b j (suc s) ≤ previous b k (suc s)
+unfolding previous done
+le-previous b zero j s l p m = absurd (omega arith)
+le-previous b (suc k) j s l p m = pick (last j k l)
+  where
+    pick : Last j k → enters b j (suc s) ≤ enters b k (suc s)
+    pick (before h) = let q = share-early b k j s h p m in let r = own b k s in omega arith
+    pick (at e) = subst (λ (x : ℕ). enters b j (suc s) ≤ enters b x (suc s)) e (omega arith)
+
+pub previous-le : (b : Behaviour) (k s : ℕ) → 0 < s → s < 5 → previous b k (suc s) ≤ enters b k s
+unfolding previous
+previous-le b zero s p m = omega arith
+previous-le b (suc k) s p m = share-early b (suc k) k s (omega arith) p m
+
+-- when the last instruction below k that passes the test is done with a level; 0 where there is none
+unfoldable pub lastDone : Behaviour → (ℕ → Bool) → ℕ → ℕ → ℕ
+lastDone b test s zero = 0
+lastDone b test s (suc k) = cond (test k) (done b k s) (lastDone b test s k)
+
+pub last-done-le : (b : Behaviour) (test : ℕ → Bool) (s k m : ℕ) → ((j : ℕ) → j < k → test j ≡ true → done b j s ≤ m) → lastDone b test s k ≤ m
+unfolding lastDone
+last-done-le b test s zero m h = omega arith
+last-done-le b test s (suc k) m h = pick (last-done-le b test s k m (λ j l e. h j (omega arith) e)) (outcome (test k))
+  where
+    pick : lastDone b test s k ≤ m → Outcome (test k) → cond (test k) (done b k s) (lastDone b test s k) ≤ m
+    pick ih (passes e) = rw e (h k (omega arith) e)
+    pick ih (fails e) = rw e ih
+
+pub le-last-done : (b : Behaviour) (test : ℕ → Bool) (s : ℕ) → 0 < s →
+    ((i j : ℕ) → test i ≡ true → test j ≡ true → shares b i j s ≡ true) →
+    (k j : ℕ) →
+    j < k →
+    test j ≡ true →
+    done b j s ≤ lastDone b test s k
+unfolding lastDone done
+le-last-done b test s p h zero j l e = absurd (omega arith)
+le-last-done b test s p h (suc k) j l e = pick (le-last-done b test s p h k j) (last j k l) (outcome (test k))
+  where
+    pick : (j < k → test j ≡ true → done b j s ≤ lastDone b test s k) → Last j k → Outcome (test k) → done b j s ≤ cond (test k) (done b k s) (lastDone b test s k)
+    pick ih (before m) (passes f) = rw f (let q = own b j s in let r = share-level b k j s m p (h k j f e) in omega arith)
+    pick ih (before m) (fails f) = rw f (ih m e)
+    pick ih (at g) (passes f) = rw f (subst (λ (x : ℕ). done b j s ≤ done b x s) g (omega arith))
+    pick ih (at g) (fails f) = never (ap test (sym g) ∙ e) f

@@ -1,0 +1,92 @@
+-- The stages as levels of an instruction's way: which stage stands at a level, and when two instructions' stages are the same.
+use Prim.Native.Nat.{ℕ, zero, suc, _≤_, _<_}
+use mathlib.Core.Bool.{Bool, true, false, cond}
+use mathlib.Core.Path.{_≡_, refl, sym, subst, ap, _∙_}
+use native.Mathlib.Omega.{arith}
+use Rattle.machine.specs.Instruction.{Kind, plain, load, store, branch}
+use Rattle.machine.specs.Rules.{Stage, pre, IF, ID, EX, MEM, ST, WB, post, next, rank, same, isStore}
+use Rattle.machine.proofs.Numbers.{Last, before, at, last}
+use Rattle.machine.proofs.Tests.{same-is, is-same}
+use Rattle.machine.proofs.Schedule.{Behaviour, shares, Together, early, late, together, shares-early, shares-last}
+
+-- the stage of an instruction at a level; ST is the last one of a store's lane
+abbrev pub stageAt : Bool → ℕ → Stage
+stageAt lane zero = pre
+stageAt lane (suc zero) = IF
+stageAt lane (suc (suc zero)) = ID
+stageAt lane (suc (suc (suc zero))) = EX
+stageAt lane (suc (suc (suc (suc zero)))) = MEM
+stageAt lane (suc (suc (suc (suc (suc zero))))) = cond lane ST WB
+stageAt lane (suc (suc (suc (suc (suc (suc s)))))) = post
+
+pub rank-stage : (lane : Bool) (s : ℕ) → s ≤ 6 → rank (stageAt lane s) ≡ s
+rank-stage lane zero l = refl
+rank-stage lane (suc zero) l = refl
+rank-stage lane (suc (suc zero)) l = refl
+rank-stage lane (suc (suc (suc zero))) l = refl
+rank-stage lane (suc (suc (suc (suc zero)))) l = refl
+rank-stage true (suc (suc (suc (suc (suc zero))))) l = refl
+rank-stage false (suc (suc (suc (suc (suc zero))))) l = refl
+rank-stage lane (suc (suc (suc (suc (suc (suc s)))))) l = omega arith
+
+-- before level 5 the lanes do not matter
+stage-early : (a c : Bool) (s : ℕ) → s < 5 → stageAt a s ≡ stageAt c s
+stage-early a c zero l = refl
+stage-early a c (suc zero) l = refl
+stage-early a c (suc (suc zero)) l = refl
+stage-early a c (suc (suc (suc zero))) l = refl
+stage-early a c (suc (suc (suc (suc zero)))) l = refl
+stage-early a c (suc (suc (suc (suc (suc s))))) l = absurd (omega arith)
+
+-- at level 5 they do
+isST : Stage → Bool
+isST pre = false
+isST IF = false
+isST ID = false
+isST EX = false
+isST MEM = false
+isST ST = true
+isST WB = false
+isST post = false
+
+lane-of : (lane : Bool) → isST (stageAt lane 5) ≡ lane
+unfolding isST
+lane-of true = refl
+lane-of false = refl
+
+pub same-level : (a c : Bool) (s u : ℕ) → s ≤ 6 → u ≤ 6 → same (stageAt a s) (stageAt c u) ≡ true → s ≡ u
+same-level a c s u l m e = sym (rank-stage a s l) ∙ ap rank (same-is (stageAt a s) (stageAt c u) e) ∙ rank-stage c u m
+
+-- a stage between pre and post is the same for two instructions exactly where they share it
+pub shares-same : (b : Behaviour) (i j s : ℕ) → shares b i j s ≡ true → same (stageAt (b .lane j) s) (stageAt (b .lane i) s) ≡ true
+shares-same b i j s e = pick (together b i j s e)
+  where
+    pick : Together b i j s → same (stageAt (b .lane j) s) (stageAt (b .lane i) s) ≡ true
+    pick (early l) = is-same (stageAt (b .lane j) s) (stageAt (b .lane i) s) (stage-early (b .lane j) (b .lane i) s l)
+    pick (late e f) = is-same (stageAt (b .lane j) s) (stageAt (b .lane i) s) (ap (λ (x : Bool). stageAt x s) f)
+
+pub same-shares : (b : Behaviour) (i j s : ℕ) → s ≤ 5 → same (stageAt (b .lane j) s) (stageAt (b .lane i) s) ≡ true → shares b i j s ≡ true
+same-shares b i j s l e = pick (last s 5 (omega arith))
+  where
+    pick : Last s 5 → shares b i j s ≡ true
+    pick (before m) = shares-early b i j s m
+    pick (at f) =
+        let g : stageAt (b .lane j) 5 ≡ stageAt (b .lane i) 5 = subst (λ (x : ℕ). stageAt (b .lane j) x ≡ stageAt (b .lane i) x) f (same-is (stageAt (b .lane j) s) (stageAt (b .lane i) s) e) in
+        subst (λ (x : ℕ). shares b i j x ≡ true) (sym f) (shares-last b i j (sym (lane-of (b .lane j)) ∙ ap isST g ∙ lane-of (b .lane i)))
+
+-- the way to the next level
+pub next-stage : (kind : Kind) (s : ℕ) → s < 6 → next kind (stageAt (isStore kind) s) ≡ stageAt (isStore kind) (suc s)
+unfolding next
+next-stage kind zero l = refl
+next-stage kind (suc zero) l = refl
+next-stage kind (suc (suc zero)) l = refl
+next-stage kind (suc (suc (suc zero))) l = refl
+next-stage plain (suc (suc (suc (suc zero)))) l = refl
+next-stage load (suc (suc (suc (suc zero)))) l = refl
+next-stage store (suc (suc (suc (suc zero)))) l = refl
+next-stage branch (suc (suc (suc (suc zero)))) l = refl
+next-stage plain (suc (suc (suc (suc (suc zero))))) l = refl
+next-stage load (suc (suc (suc (suc (suc zero))))) l = refl
+next-stage store (suc (suc (suc (suc (suc zero))))) l = refl
+next-stage branch (suc (suc (suc (suc (suc zero))))) l = refl
+next-stage kind (suc (suc (suc (suc (suc (suc s)))))) l = absurd (omega arith)

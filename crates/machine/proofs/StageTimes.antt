@@ -1,0 +1,203 @@
+-- When an instruction enters the stages after IF: of the older ones the closed form needs only the one directly before, a load directly before, and
+-- the last store.
+use Prim.Native.Nat.{ℕ, zero, suc, _+_, _≤_, _<_, max}
+use mathlib.Core.Bool.{Bool, true, false, cond, false≢true}
+use mathlib.Core.Path.{_≡_, refl, sym, ap, subst, _∙_}
+use native.Mathlib.Nat.{le-antisymm, max-le}
+use native.Mathlib.Omega.{arith}
+use Rattle.machine.specs.Test.{_and_}
+use Rattle.machine.specs.Instruction.{Kind, plain, load, store, branch, Instruction, Trace, instruction}
+use Rattle.machine.specs.Rules.{IF, EX, MEM, isLoad, isStore, entry, reads, missesData}
+use Rattle.machine.proofs.Numbers.{Last, before, at, last}
+use Rattle.machine.proofs.Tests.{Outcome, passes, fails, outcome}
+use Rattle.machine.proofs.Schedule.{Behaviour, shares, Together, early, late, together, shares-last, enters, done, own, share, wait, least}
+use Rattle.machine.proofs.Derivation.{waitsInID, waitsInEX, waits, countAt, last-count, behaviour}
+use Rattle.machine.proofs.Dominance.{previous, le-previous, previous-le, share-early, lastDone, last-done-le}
+use Rattle.machine.proofs.FetchTime.{loads, stores, load-done, store-done, done-pre}
+
+-- what an instruction in ID and in EX waits for
+ID-within : (kind : Kind) (readsTarget : Bool) (d : ℕ → ℕ) (m : ℕ) → d 0 ≡ 1 → 1 ≤ m → (isLoad kind ≡ true → readsTarget ≡ true → d 4 ≤ m) → d (waitsInID kind readsTarget) ≤ m
+unfolding waitsInID
+ID-within plain r d m o p h = omega arith
+ID-within load true d m o p h = h refl refl
+ID-within load false d m o p h = omega arith
+ID-within store r d m o p h = omega arith
+ID-within branch r d m o p h = omega arith
+
+load-before : (kind : Kind) → isLoad kind ≡ true → waitsInID kind true ≡ 4
+unfolding waitsInID
+load-before plain e = absurd (false≢true e)
+load-before load e = refl
+load-before store e = absurd (false≢true e)
+load-before branch e = absurd (false≢true e)
+
+reads-zero : (i : Instruction) → reads i 0 ≡ false
+unfolding reads _and_
+reads-zero i = refl
+
+EX-within : (kind : Kind) (dataMisses : Bool) (d : ℕ → ℕ) (z : ℕ) → d 0 ≡ 1 → (isStore kind ≡ true → d 5 ≤ z) → d (waitsInEX kind dataMisses) ≤ max 1 (cond dataMisses z 0)
+unfolding waitsInEX
+EX-within plain m d z o h = omega arith
+EX-within load m d z o h = omega arith
+EX-within store true d z o h = let p = h refl in omega arith
+EX-within store false d z o h = omega arith
+EX-within branch m d z o h = omega arith
+
+store-before : (kind : Kind) → isStore kind ≡ true → waitsInEX kind true ≡ 5
+unfolding waitsInEX
+store-before plain e = absurd (false≢true e)
+store-before load e = absurd (false≢true e)
+store-before store e = refl
+store-before branch e = absurd (false≢true e)
+
+no-count-in-WB : (i : Instruction) → isStore (i .kind) ≡ false → countAt i 5 ≡ 0
+no-count-in-WB i e = last-count i (isStore (i .kind)) ∙ rw e
+
+module _ (trace : Trace) where
+  abbrev b : Behaviour
+  b = behaviour trace
+
+  -- ID
+  pub at-ID : (k : ℕ) →
+      enters b k 2 ≡ max (enters b k 1 + entry (instruction trace k) IF + 1) (previous b k 3)
+  unfolding behaviour waits done
+  at-ID k =
+      le-antisymm
+      (least b k 1 _
+      (omega arith)
+      (λ j l e. let p = le-previous b k j 2 l (omega arith) (omega arith) in omega arith)
+      (λ j l. let p = done-pre b j in omega arith))
+      (max-le (own b k 1) (previous-le b k 2 (omega arith) (omega arith)))
+
+  -- EX
+  unfoldable pub targetBefore : ℕ → ℕ
+  targetBefore zero = 0
+  targetBefore (suc k) = cond (isLoad (instruction trace k .kind)) (instruction trace k .target) 0
+
+  -- only the load directly before matters: an older one has left MEM when that enters it
+  older-load : (k j : ℕ) → j < k → isLoad (instruction trace j .kind) ≡ true → reads (instruction trace k) (instruction trace j .target) ≡ true →
+      done b j 4 ≤ max (previous b k 4) (cond (reads (instruction trace k) (targetBefore k)) (loads trace k) 0)
+  unfolding previous targetBefore
+  older-load zero j l e f = absurd (omega arith)
+  older-load (suc k) j l e f = pick (last j k l)
+    where
+      pick : Last j k → done b j 4
+          ≤ max (enters b k 4) (cond (reads (instruction trace (suc k)) (cond (isLoad (instruction trace k .kind)) (instruction trace k .target) 0)) (loads trace (suc k)) 0)
+      pick (before h) = let p = own b j 4 in let q = share-early b k j 4 h (omega arith) (omega arith) in omega arith
+      pick (at h) =
+          let g : isLoad (instruction trace k .kind) ≡ true = subst (λ (x : ℕ). isLoad (instruction trace x .kind) ≡ true) h e in
+          let r : reads (instruction trace (suc k)) (instruction trace k .target) ≡ true = subst (λ (x : ℕ). reads (instruction trace (suc k)) (instruction trace x .target) ≡ true) h f in
+          let p = load-done trace (suc k) j l e in
+          rw g (rw r (omega arith))
+
+  load-directly-before : (k : ℕ) → cond (reads (instruction trace k) (targetBefore k)) (loads trace k) 0 ≤ enters b k 3
+  unfolding targetBefore loads lastDone behaviour waits
+  load-directly-before zero = rw (reads-zero (instruction trace 0)) (omega arith)
+  load-directly-before (suc k) = pick (outcome (isLoad (instruction trace k .kind))) (outcome (reads (instruction trace (suc k)) (instruction trace k .target)))
+    where
+      pick : Outcome (isLoad (instruction trace k .kind)) → Outcome (reads (instruction trace (suc k)) (instruction trace k .target)) →
+          cond (reads (instruction trace (suc k)) (cond (isLoad (instruction trace k .kind)) (instruction trace k .target) 0)) (loads trace (suc k)) 0 ≤ enters b (suc k) 3
+      pick (passes e) (passes f) =
+          rw e
+          (rw f
+          (subst (λ (x : ℕ). done b k x ≤ enters b (suc k) 3)
+          (ap (waitsInID (instruction trace k .kind)) f ∙ load-before (instruction trace k .kind) e)
+          (wait b (suc k) k 2 (omega arith))))
+      pick (passes e) (fails f) = rw e (rw f (omega arith))
+      pick (fails e) r = rw e (rw (reads-zero (instruction trace (suc k))) (omega arith))
+
+  pub at-EX : (k : ℕ) →
+      enters b k 3
+      ≡ max (max (enters b k 2 + 1) (previous b k 4)) (cond (reads (instruction trace k) (targetBefore k)) (loads trace k) 0)
+  unfolding behaviour waits done entry
+  at-EX k =
+      le-antisymm
+      (least b k 2 _
+      (omega arith)
+      (λ j l e. let p = le-previous b k j 3 l (omega arith) (omega arith) in omega arith)
+      (λ j l.
+      ID-within (instruction trace j .kind) (reads (instruction trace k) (instruction trace j .target)) (done b j) _ (done-pre b j) (omega arith)
+      (λ e f. let p = older-load k j l e f in omega arith)))
+      (max-le
+      (max-le (let p = own b k 2 in omega arith) (previous-le b k 3 (omega arith) (omega arith)))
+      (load-directly-before k))
+
+  -- MEM
+  miss-waits : (k : ℕ) → Outcome (missesData (instruction trace k)) → cond (missesData (instruction trace k)) (stores trace k) 0 ≤ enters b k 4
+  unfolding stores behaviour waits
+  miss-waits k (fails e) = rw e (omega arith)
+  miss-waits k (passes e) =
+      rw e
+      (last-done-le b (λ j. isStore (instruction trace j .kind)) 5 k (enters b k 4)
+      (λ j l f.
+      subst (λ (x : ℕ). done b j x ≤ enters b k 4) (ap (waitsInEX (instruction trace j .kind)) e ∙ store-before (instruction trace j .kind) f)
+      (wait b k j 3 l)))
+
+  pub at-MEM : (k : ℕ) →
+      enters b k 4
+      ≡ max (max (enters b k 3 + entry (instruction trace k) EX + 1) (previous b k 5)) (cond (missesData (instruction trace k)) (stores trace k) 0)
+  unfolding behaviour waits done
+  at-MEM k =
+      le-antisymm
+      (least b k 3 _
+      (omega arith)
+      (λ j l e. let p = le-previous b k j 4 l (omega arith) (omega arith) in omega arith)
+      (λ j l.
+      let p = EX-within (instruction trace j .kind) (missesData (instruction trace k)) (done b j) (stores trace k) (done-pre b j) (store-done trace k j l) in
+      omega arith))
+      (max-le
+      (max-le (own b k 3) (previous-le b k 4 (omega arith) (omega arith)))
+      (miss-waits k (outcome (missesData (instruction trace k)))))
+
+  -- post: nothing is shared there and nothing waited for
+  pub at-post : (k : ℕ) → enters b k 6 ≡ done b k 5
+  unfolding behaviour waits done
+  at-post k =
+      le-antisymm
+      (least b k 5 _
+      (omega arith)
+      (λ j l e. none-shares (together b k j 6 e))
+      (λ j l. let p = done-pre b j in omega arith))
+      (own b k 5)
+    where
+      none-shares : {j m n : ℕ} → Together b k j 6 → m ≤ n
+      none-shares (early l) = absurd (omega arith)
+      none-shares (late l e) = absurd (omega arith)
+
+  -- the last stage: WB is free in time, ST when the last store is done
+  store-free : (k : ℕ) → Outcome (isStore (instruction trace k .kind)) → cond (isStore (instruction trace k .kind)) (stores trace k) 0 ≤ enters b k 5
+  unfolding stores behaviour
+  store-free k (fails e) = rw e (omega arith)
+  store-free k (passes e) =
+      rw e
+      (last-done-le b (λ j. isStore (instruction trace j .kind)) 5 k (enters b k 5)
+      (λ j l f.
+      let p = own b j 5 in
+      let q = share b k j 4 l (shares-last b k j (f ∙ sym e)) in
+      omega arith))
+
+  last-free : (k j : ℕ) → j < k → shares b k j 5 ≡ true →
+      enters b j 6 ≤ max (done b k 4) (cond (isStore (instruction trace k .kind)) (stores trace k) 0)
+  unfolding behaviour done
+  last-free k j l e = pick (together b k j 5 e) (outcome (isStore (instruction trace k .kind)))
+    where
+      pick : Together b k j 5 → Outcome (isStore (instruction trace k .kind)) →
+          enters b j 6 ≤ max (done b k 4) (cond (isStore (instruction trace k .kind)) (stores trace k) 0)
+      pick (early m) o = absurd (omega arith)
+      pick (late m f) (passes o) = rw o (let p = at-post j in let q = store-done trace k j l (f ∙ o) in omega arith)
+      pick (late m f) (fails o) =
+          let p = at-post j in
+          let q = no-count-in-WB (instruction trace j) (f ∙ o) in
+          let r = share-early b k j 4 l (omega arith) (omega arith) in
+          omega arith
+
+  pub at-last : (k : ℕ) →
+      enters b k 5 ≡ max (enters b k 4 + entry (instruction trace k) MEM + 1) (cond (isStore (instruction trace k .kind)) (stores trace k) 0)
+  unfolding behaviour waits done
+  at-last k =
+      le-antisymm
+      (least b k 4 _
+      (omega arith)
+      (last-free k)
+      (λ j l. let p = done-pre b j in omega arith))
+      (max-le (own b k 4) (store-free k (outcome (isStore (instruction trace k .kind)))))
