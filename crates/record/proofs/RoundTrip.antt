@@ -7,7 +7,7 @@ use native.Mathlib.Omega.{arith}
 use lib.ListN.{length}
 use lib.Seq.{ext-getD}
 use Rattle.machine.specs.Instruction.{Instruction, Trace, instruction, blank}
-use Rattle.record.specs.Layout.{recordSize, flagsAt, byte, fieldsFrom}
+use Rattle.record.specs.Layout.{recordSize, flagsAt, fetchLatencyAt, dataLatencyAt, byte, fieldsFrom}
 use Rattle.record.specs.Rules.{instructionOf}
 use Rattle.record.specs.Body.{Bytes, records, fieldsAt, breaksAt, firsts, traceOf, recordOf, bodyOf, bodyRefusal}
 use Rattle.record.specs.Claims.{AcceptedIsEncoded, EncodingIsDecoded}
@@ -30,12 +30,12 @@ encoded bytes at b flags w =
       number-flagOf _ (w .fetch),
       number-flagOf _ (w .access),
       flags-of-parts _ flags,
-      low-of-half _ _ (b (at + 6)),
-      high-of-half _ _ (b (at + 6)),
-      low-of-half _ _ (b (at + 8)),
-      high-of-half _ _ (b (at + 8)),
-      add-assoc at 6 1,
-      add-assoc at 8 1,
+      low-of-half _ _ (b (at + fetchLatencyAt)),
+      high-of-half _ _ (b (at + fetchLatencyAt)),
+      low-of-half _ _ (b (at + dataLatencyAt)),
+      high-of-half _ _ (b (at + dataLatencyAt)),
+      add-assoc at fetchLatencyAt 1,
+      add-assoc at dataLatencyAt 1,
     )
 
 module _ (body : List ℕ) (b : Bytes body) (accepted : bodyRefusal body ≡ 0) where
@@ -83,10 +83,10 @@ alike
 unfolding fieldsFrom
 alike a b p q h =
     rw (
-      add-assoc p 6 1,
-      add-assoc p 8 1,
-      add-assoc q 6 1,
-      add-assoc q 8 1,
+      add-assoc p fetchLatencyAt 1,
+      add-assoc p dataLatencyAt 1,
+      add-assoc q fetchLatencyAt 1,
+      add-assoc q dataLatencyAt 1,
       h 0 (omega arith),
       h 1 (omega arith),
       h 2 (omega arith),
@@ -108,7 +108,7 @@ module _ (trace : Trace) (k : ℕ) (l : k < length trace) where
 
   breaks-bodyOf : breaksAt (bodyOf trace) k ≡ breaksAt (recordOf (instruction trace k)) 0
   unfolding breaksAt
-  breaks-bodyOf = rw (fields-bodyOf, record-byte 1 (omega arith))
+  breaks-bodyOf = rw (fields-bodyOf, record-byte flagsAt (omega arith))
 
 -- a record has room for every kind and flag, and its halves for any number, so this needs no rule
 pub trace-again : (trace : Trace) → traceOf (bodyOf trace) ≡ trace

@@ -8,7 +8,7 @@ use native.Mathlib.Omega.{arith}
 use borrow.Author.Tests.{ltb-false, eqb-true, eqb-false, eq-eqb, not-false}
 use lib.Dec.{ltb, eqb}
 use Rattle.record.specs.declared.layout.Fields.{Fields}
-use Rattle.record.specs.Layout.{fieldsFrom}
+use Rattle.record.specs.Layout.{executionAt, fetchLatencyAt, dataLatencyAt, fieldsFrom}
 use Rattle.record.specs.Rules.{badKind, badFlags, noAccess, strayAccess, badRegister, strayTarget, badFetchLatency, badDataLatency, breaksRules}
 use Rattle.record.specs.Body.{Bytes}
 
@@ -52,9 +52,9 @@ sized bytes at b =
     record {
       fetch = omega arith;
       access = omega arith;
-      execution = b (at + 5);
-      fetchLatency = omega (arith, b (at + 6), b (at + 6 + 1));
-      dataLatency = omega (arith, b (at + 8), b (at + 8 + 1));
+      execution = b (at + executionAt);
+      fetchLatency = omega (arith, b (at + fetchLatencyAt), b (at + fetchLatencyAt + 1));
+      dataLatency = omega (arith, b (at + dataLatencyAt), b (at + dataLatencyAt + 1));
     }
 
 -- what the rules give besides
@@ -103,6 +103,11 @@ module _ (f : Fields) (flags : ℕ) (lawful : breaksRules f flags ≡ false) whe
   flag-rules : (eqb (f .fetch) 3 ≡ false) × (eqb (f .access) 3 ≡ false) × (ltb 15 flags ≡ false)
   flag-rules = three _ _ _ (rules .1)
 
+  data-rules
+      : ((eqb (f .kind) 1 || eqb (f .kind) 2) && eqb (f .«data_latency») 0 ≡ false)
+      × (noAccess f && not (eqb (f .«data_latency») 0) ≡ false)
+  data-rules = or-false _ _ (rules .6)
+
   pub flags-within : flags ≤ 15
   flags-within = ltb-false 15 flags (flag-rules .2)
 
@@ -116,11 +121,6 @@ module _ (f : Fields) (flags : ℕ) (lawful : breaksRules f flags ≡ false) whe
       let fetch = eqb-false (f .fetch) 3 (flag-rules .0) in
       let access = eqb-false (f .access) 3 (flag-rules .1) in
       let fetch-latency = eqb-false (f .«fetch_latency») 0 (rules .5) in
-      let data-latency =
-      or-false
-      ((eqb (f .kind) 1 || eqb (f .kind) 2) && eqb (f .«data_latency») 0)
-      (noAccess f && not (eqb (f .«data_latency») 0))
-      (rules .6) in
       record {
         kind = ltb-false 3 (f .kind) (rules .0);
         fetch = omega arith;
@@ -134,7 +134,7 @@ module _ (f : Fields) (flags : ℕ) (lawful : breaksRules f flags ≡ false) whe
         no-access =
             λ k.
             let none = one-of (f .kind) 0 3 k in
-            (zero-where (noAccess f) (f .access) (rules .2) none, zero-where (noAccess f) (f .«data_latency») (data-latency .1) none);
-        some-access = λ k. above-where (eqb (f .kind) 1 || eqb (f .kind) 2) (f .«data_latency») (data-latency .0) (one-of (f .kind) 1 2 k);
+            (zero-where (noAccess f) (f .access) (rules .2) none, zero-where (noAccess f) (f .«data_latency») (data-rules .1) none);
+        some-access = λ k. above-where (eqb (f .kind) 1 || eqb (f .kind) 2) (f .«data_latency») (data-rules .0) (one-of (f .kind) 1 2 k);
         no-target = λ k. zero-where (eqb (f .kind) 2 || eqb (f .kind) 3) (f .target) (rules .4) (one-of (f .kind) 2 3 k);
       }
