@@ -35,7 +35,7 @@ breaks-from-requires c κs = search needs
 -- src/body.rt:78:13
 returns : tie.Need-returns Inv-loop μ-loop
 unfolding recordRefusal breaksAt
-returns c = scan-refused _ _ _ _ (c .before .before .loop-test .taken) (sym (c .before .breaks-from .ensures) ∙ c .if1 .taken)
+returns c = scan-refused _ _ _ _ (omega arith) (sym (c .before .breaks-from .ensures) ∙ c .if1 .taken)
 
 -- src/body.rt:80:9
 add-k : tie.Need-add-k Inv-loop μ-loop

@@ -35,7 +35,7 @@ unknown-from-requires c κs = search needs
 -- src/body.rt:92:13
 returns : tie.Need-returns Inv-loop μ-loop
 unfolding unknownRefusal unknownAt
-returns c = scan-refused _ _ _ _ (c .before .before .loop-test .taken) (sym (c .before .unknown-from .ensures) ∙ c .if1 .taken)
+returns c = scan-refused _ _ _ _ (omega arith) (sym (c .before .unknown-from .ensures) ∙ c .if1 .taken)
 
 -- src/body.rt:94:9
 add-i : tie.Need-add-i Inv-loop μ-loop
