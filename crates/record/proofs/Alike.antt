@@ -4,7 +4,7 @@ use mathlib.Core.List.{List}
 use mathlib.Core.Path.{_≡_}
 use native.Mathlib.Nat.{add-assoc}
 use native.Mathlib.Omega.{arith}
-use Rattle.record.specs.Layout.{recordSize, byte, fieldsFrom}
+use Rattle.record.specs.Layout.{recordSize, flagsAt, fetchLatencyAt, dataLatencyAt, byte, fieldsFrom}
 use Rattle.record.specs.Body.{breaksAt}
 
 pub fields-alike
@@ -12,10 +12,10 @@ pub fields-alike
 unfolding fieldsFrom
 fields-alike a b p q h =
     rw (
-      add-assoc p 6 1,
-      add-assoc p 8 1,
-      add-assoc q 6 1,
-      add-assoc q 8 1,
+      add-assoc p fetchLatencyAt 1,
+      add-assoc p dataLatencyAt 1,
+      add-assoc q fetchLatencyAt 1,
+      add-assoc q dataLatencyAt 1,
       h 0 (omega arith),
       h 1 (omega arith),
       h 2 (omega arith),
@@ -33,4 +33,4 @@ pub breaks-alike
     ((j : ℕ) → j < recordSize → byte a (k * recordSize + j) ≡ byte b (m * recordSize + j)) →
     breaksAt a k ≡ breaksAt b m
 unfolding breaksAt
-breaks-alike a b k m h = rw (fields-alike a b _ _ h, h 1 (omega arith))
+breaks-alike a b k m h = rw (fields-alike a b _ _ h, h flagsAt (omega arith))

@@ -1,9 +1,9 @@
 -- A loop that looks for the first number at which a test passes, against `none`: what it knows at its head, after a turn, and at its end.
 use Prim.Native.Nat.{ℕ, zero, suc, _+_, _<_, _≤_}
-use mathlib.Core.Bool.{Bool, true, false, not}
+use mathlib.Core.Bool.{Bool, true, false}
 use mathlib.Core.Logic.{⊎-elim}
-use mathlib.Core.Path.{_≡_, refl, sym, ap, subst, _∙_}
-use native.Mathlib.Nat.{le-of-suc-le-suc, not-suc-le-zero, eq-or-lt-of-le, le-antisymm}
+use mathlib.Core.Path.{_≡_, refl, sym, subst, _∙_}
+use native.Mathlib.Nat.{le-of-suc-le-suc, not-suc-le-zero, eq-or-lt-of-le, le-antisymm, le-refl, le-step}
 use native.Mathlib.Numerals.{add-one}
 use Rattle.machine.specs.Test.{_and_, every, none}
 use Rattle.record.specs.Refusal.{_unless_}
@@ -41,6 +41,11 @@ module _ (test : ℕ → Bool) where
       go : (b : Bool) → test k ≡ b → b ≡ false
       go true q = sym e ∙ none-stop k n l q
       go false q = refl
+
+  pub none-of : (n : ℕ) → ((k : ℕ) → k < n → test k ≡ false) → none test n ≡ true
+  unfolding none every _and_
+  none-of zero h = refl
+  none-of (suc n) h = rw (none-of n (λ k l. h k (le-step l)), h n (le-refl (suc n)))
 
   -- the refusal that such a loop answers
   pub scan-refused : (refusal k n : ℕ) → k < n → test k ≡ true → refusal ≡ (refusal unless none test n)

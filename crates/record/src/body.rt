@@ -96,12 +96,12 @@ pub fn unknown_refusal(body: &[u8]) -> u32
     ensures { λ r. ⌜ r ≡ unknownRefusal (now (body .entry)) ⌝ }
 {
     let records = body.len() / RECORD_SIZE;
-    let mut k = 0;
-    while k < records {
-        if unknown_from(body, k * RECORD_SIZE) {
+    let mut i = 0;
+    while i < records {
+        if unknown_from(body, i * RECORD_SIZE) {
             return UNKNOWN_FLAG;
         }
-        k += 1;
+        i += 1;
     }
     0
 }

@@ -1,6 +1,7 @@
 use Rattle.record.proofs.Refusals.{stop, go-on}
 use Rattle.record.specs.Body.{bodyRefusal}
 use borrow.Author.Needs.{needs}
+use native.Mathlib.Omega.{arith}
 use Rattle.record.proofs.body.body_refusal.Statement.{statement}
 use Rattle.record.proofs.body.body_refusal.Tie as tie
 use Rattle.record.proofs.body.body_refusal.Reads as reads
@@ -15,7 +16,7 @@ length-refusal-requires c κs = search needs
 -- src/body.rt:105:9
 returns : tie.Need-returns
 unfolding bodyRefusal
-returns c = stop _ (c .before .length-refusal .ensures) (c .if1 .taken)
+returns c = stop _ (search needs) (omega arith)
 
 -- src/body.rt:107:5
 record-refusal-requires : tie.Need-record-refusal-requires
@@ -24,7 +25,7 @@ record-refusal-requires c κs = search needs
 -- src/body.rt:100:1
 returns-2 : tie.Need-returns-2
 unfolding bodyRefusal
-returns-2 c = go-on (c .before .before .length-refusal .ensures) (c .before .if1 .left) (c .record-refusal .ensures)
+returns-2 c = go-on (c .before .before .length-refusal .ensures) (omega arith) (c .record-refusal .ensures)
 
 pub body-refusal-spec : {M : Type 1} → statement M
 body-refusal-spec =

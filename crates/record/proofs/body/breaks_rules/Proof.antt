@@ -1,4 +1,4 @@
-use borrow.Author.Needs.{needs}
+use mathlib.Core.Path.{refl}
 use Rattle.record.specs.Rules.{breaksRules}
 use Rattle.record.proofs.body.breaks_rules.Statement.{statement}
 use Rattle.record.proofs.body.breaks_rules.Tie as tie
@@ -8,7 +8,7 @@ use Rattle.record.proofs.body.breaks_rules.Lts as lts
 -- src/body.rt:19:1
 returns : tie.Need-returns
 unfolding breaksRules
-returns c = search needs
+returns c = refl
 
 pub breaks-rules-spec : {M : Type 1} → statement M
 breaks-rules-spec = tie.close (tie.spec returns)

@@ -1,25 +1,41 @@
-use Rattle.record.specs.Body.{lengthRefusal}
-use Rattle.record.specs.Refusal.{_unless_}
+use Rattle.record.specs.Body.{records, lengthRefusal}
+use Rattle.record.specs.Layout.{recordSize}
+use Rattle.record.specs.Refusal.{_unless_, wrongLength}
 use borrow.Author.Tests.{eq-eqb, ne-eqb, lt-leb, le-leb}
+use native.Mathlib.Omega.{arith}
+use lib.ListN.{length}
+use mathlib.Core.List.{List}
+use mathlib.Core.Path.{_≡_}
+use Prim.Native.Nat.{ℕ, _%_, _≤_, _<_}
 use Rattle.record.proofs.body.length_refusal.Statement.{statement}
 use Rattle.record.proofs.body.length_refusal.Tie as tie
 use Rattle.record.proofs.body.length_refusal.Reads as reads
 use Rattle.record.proofs.body.length_refusal.Lts as lts
 
+module _ (body : List ℕ) where
+  broken : (length body % recordSize ≡ 0 → ⊥) → wrongLength ≡ lengthRefusal body
+  unfolding lengthRefusal _unless_
+  broken rest = rw (ne-eqb (length body % recordSize) 0 rest)
+
+  long : length body % recordSize ≡ 0 → 4096 < records body → wrongLength ≡ lengthRefusal body
+  unfolding lengthRefusal _unless_
+  long whole many = rw (eq-eqb (length body % recordSize) 0 whole, lt-leb (records body) 4096 many)
+
+  right : length body % recordSize ≡ 0 → records body ≤ 4096 → 0 ≡ lengthRefusal body
+  unfolding lengthRefusal _unless_
+  right whole few = rw (eq-eqb (length body % recordSize) 0 whole, le-leb (records body) 4096 few)
+
 -- src/body.rt:63:9
 returns : tie.Need-returns
-unfolding lengthRefusal _unless_
-returns c = rw (ne-eqb _ _ (c .if1 .taken))
+returns c = broken _ (omega arith)
 
 -- src/body.rt:66:9
 returns-2 : tie.Need-returns-2
-unfolding lengthRefusal _unless_
-returns-2 c = rw (eq-eqb _ _ (c .before .if1 .left), lt-leb _ _ (c .if2 .taken))
+returns-2 c = long _ (omega arith) (omega arith)
 
 -- src/body.rt:59:1
 returns-3 : tie.Need-returns-3
-unfolding lengthRefusal _unless_
-returns-3 c = rw (eq-eqb _ _ (c .before .if1 .left), le-leb _ _ (c .if2 .left))
+returns-3 c = right _ (omega arith) (omega arith)
 
 pub length-refusal-spec : {M : Type 1} → statement M
 length-refusal-spec = tie.close (tie.spec returns returns-2 returns-3)

@@ -35,7 +35,7 @@ breaks-from-requires c κs = search needs
 -- src/body.rt:78:13
 returns : tie.Need-returns Inv-loop μ-loop
 unfolding recordRefusal breaksAt
-returns c = scan-refused _ _ _ _ (c .before .before .loop-test .taken) (sym (c .before .breaks-from .ensures) ∙ c .if1 .taken)
+returns c = scan-refused _ _ _ _ (omega arith) (sym (c .before .breaks-from .ensures) ∙ c .if1 .taken)
 
 -- src/body.rt:80:9
 add-k : tie.Need-add-k Inv-loop μ-loop
@@ -53,7 +53,7 @@ loop-again c = (omega arith, none-more _ _ (c .before .before .before .loop .inv
 -- src/body.rt:71:1
 returns-2 : tie.Need-returns-2 Inv-loop μ-loop
 unfolding recordRefusal
-returns-2 c = scan-passed _ _ _ _ (c .before .loop .inv .1) (c .loop-test .left) (c .before .loop .inv .0)
+returns-2 c = scan-passed _ _ _ _ (c .before .loop .inv .1) (omega arith) (omega arith)
 
 pub record-refusal-spec : {M : Type 1} → statement M
 record-refusal-spec =

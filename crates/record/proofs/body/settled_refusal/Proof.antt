@@ -1,6 +1,7 @@
 use Rattle.record.proofs.Refusals.{stop, go-on}
 use Rattle.record.specs.Body.{settledRefusal}
 use borrow.Author.Needs.{needs}
+use native.Mathlib.Omega.{arith}
 use Rattle.record.proofs.body.settled_refusal.Statement.{statement}
 use Rattle.record.proofs.body.settled_refusal.Tie as tie
 use Rattle.record.proofs.body.settled_refusal.Reads as reads
@@ -15,7 +16,7 @@ body-refusal-requires c κs = search needs
 -- src/body.rt:116:9
 returns : tie.Need-returns
 unfolding settledRefusal
-returns c = stop _ (c .before .body-refusal .ensures) (c .if1 .taken)
+returns c = stop _ (search needs) (omega arith)
 
 -- src/body.rt:118:5
 unknown-refusal-requires : tie.Need-unknown-refusal-requires
@@ -24,7 +25,7 @@ unknown-refusal-requires c κs = search needs
 -- src/body.rt:111:1
 returns-2 : tie.Need-returns-2
 unfolding settledRefusal
-returns-2 c = go-on (c .before .before .body-refusal .ensures) (c .before .if1 .left) (c .unknown-refusal .ensures)
+returns-2 c = go-on (c .before .before .body-refusal .ensures) (omega arith) (c .unknown-refusal .ensures)
 
 pub settled-refusal-spec : {M : Type 1} → statement M
 settled-refusal-spec =

@@ -15,10 +15,10 @@ use Rattle.record.proofs.body.unknown_refusal.Lts as lts
 use Rattle.record.proofs.body.unknown_from.Reads as unknown-from-reads
 
 abbrev Inv-loop : tie.InvT-loop
-Inv-loop body records k₀ k = (k ≤ records) × (none (unknownAt body) k ≡ true)
+Inv-loop body records i₀ i = (i ≤ records) × (none (unknownAt body) i ≡ true)
 
 abbrev μ-loop : tie.MeasureT-loop
-μ-loop body records k₀ k = records - k
+μ-loop body records i₀ i = records - i
 
 -- src/body.rt:90:5
 loop-holds : tie.Need-loop-holds Inv-loop μ-loop
@@ -35,11 +35,11 @@ unknown-from-requires c κs = search needs
 -- src/body.rt:92:13
 returns : tie.Need-returns Inv-loop μ-loop
 unfolding unknownRefusal unknownAt
-returns c = scan-refused _ _ _ _ (c .before .before .loop-test .taken) (sym (c .before .unknown-from .ensures) ∙ c .if1 .taken)
+returns c = scan-refused _ _ _ _ (omega arith) (sym (c .before .unknown-from .ensures) ∙ c .if1 .taken)
 
 -- src/body.rt:94:9
-add-k : tie.Need-add-k Inv-loop μ-loop
-add-k c = omega arith
+add-i : tie.Need-add-i Inv-loop μ-loop
+add-i c = omega arith
 
 -- src/body.rt:90:5
 loop-less : tie.Need-loop-less Inv-loop μ-loop
@@ -53,7 +53,7 @@ loop-again c = (omega arith, none-more _ _ (c .before .before .before .loop .inv
 -- src/body.rt:85:1
 returns-2 : tie.Need-returns-2 Inv-loop μ-loop
 unfolding unknownRefusal
-returns-2 c = scan-passed _ _ _ _ (c .before .loop .inv .1) (c .loop-test .left) (c .before .loop .inv .0)
+returns-2 c = scan-passed _ _ _ _ (c .before .loop .inv .1) (omega arith) (omega arith)
 
 pub unknown-refusal-spec : {M : Type 1} → statement M
 unknown-refusal-spec =
@@ -65,7 +65,7 @@ unknown-refusal-spec =
     mul-unknown-from
     unknown-from-requires
     returns
-    add-k
+    add-i
     loop-less
     loop-again
     returns-2)

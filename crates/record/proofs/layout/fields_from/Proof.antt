@@ -1,4 +1,20 @@
-use Rattle.record.specs.Layout.{fieldsFrom}
+use Rattle.record.specs.Layout.{
+  flagsAt,
+  kindAt,
+  source1At,
+  source2At,
+  targetAt,
+  executionAt,
+  fetchLatencyAt,
+  dataLatencyAt,
+  byte,
+  half,
+  fieldsFrom,
+}
+use Rattle.record.specs.declared.layout.Fields.{Fields}
+use mathlib.Core.List.{List}
+use mathlib.Core.Path.{_≡_}
+use Prim.Native.Nat.{ℕ, _+_, _/_, _%_}
 use borrow.Author.Needs.{needs}
 use Rattle.record.proofs.layout.fields_from.Statement.{statement}
 use Rattle.record.proofs.layout.fields_from.Tie as tie
@@ -6,6 +22,33 @@ use Rattle.record.proofs.layout.fields_from.Reads as reads
 use Rattle.record.proofs.layout.fields_from.Lts as lts
 use Rattle.record.proofs.bytes.byte_at.Reads as byte-at-reads
 use Rattle.record.proofs.bytes.half_at.Reads as half-at-reads
+
+same
+    : (bytes : List ℕ) (at : ℕ) {flags kind source1 source2 target execution fetchLatency dataLatency : ℕ} →
+    flags ≡ byte bytes (at + flagsAt) →
+    kind ≡ byte bytes (at + kindAt) →
+    source1 ≡ byte bytes (at + source1At) →
+    source2 ≡ byte bytes (at + source2At) →
+    target ≡ byte bytes (at + targetAt) →
+    execution ≡ byte bytes (at + executionAt) →
+    fetchLatency ≡ half bytes (at + fetchLatencyAt) →
+    dataLatency ≡ half bytes (at + dataLatencyAt) →
+    _≡_
+    {A = Fields}
+    (record {
+      kind = kind;
+      fetch = flags % 4;
+      access = flags / 4 % 4;
+      source1 = source1;
+      source2 = source2;
+      target = target;
+      execution = execution;
+      «fetch_latency» = fetchLatency;
+      «data_latency» = dataLatency;
+    })
+    (fieldsFrom bytes at)
+unfolding fieldsFrom
+same bytes at e0 e1 e2 e3 e4 e5 e6 e7 = rw (e0, e1, e2, e3, e4, e5, e6, e7)
 
 -- src/layout.rt:66:32
 add-byte-at : tie.Need-add-byte-at
@@ -73,8 +116,18 @@ half-at-requires-2 c κs = search needs
 
 -- src/layout.rt:62:1
 returns : tie.Need-returns
-unfolding fieldsFrom
-returns c = cc
+returns c =
+    same
+    _
+    _
+    (c .before .before .before .before .before .before .before .byte-at .ensures .0)
+    (c .before .before .before .before .before .before .byte-at2 .ensures .0)
+    (c .before .before .before .before .before .byte-at3 .ensures .0)
+    (c .before .before .before .before .byte-at4 .ensures .0)
+    (c .before .before .before .byte-at5 .ensures .0)
+    (c .before .before .byte-at6 .ensures .0)
+    (c .before .half-at .ensures .0)
+    (c .half-at2 .ensures .0)
 
 pub fields-from-spec : {M : Type 1} → statement M
 fields-from-spec =
