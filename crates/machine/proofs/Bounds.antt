@@ -40,7 +40,11 @@ bounded-step b i ih zero l = let p = starts b i in omega arith
 bounded-step b i ih (suc s) l =
     least b i s (olderCost b i + upTo b i (suc s))
     (let p = bounded-step b i ih s (omega arith) in omega arith)
-    (λ j older e. let p = ih j older (suc (suc s)) (low (together b i j (suc s) e)) in let q = older-level b i j (suc (suc s)) older (low (together b i j (suc s) e)) in omega arith)
+    (λ j older e.
+    let m = low (together b i j (suc s) e) in
+    let p = ih j older (suc (suc s)) m in
+    let q = older-level b i j (suc (suc s)) older m in
+    omega arith)
     (λ j older.
     let h = b .until-before-post i s j in
     let p = ih j older (b .until i s j) (omega arith) in

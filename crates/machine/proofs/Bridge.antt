@@ -39,7 +39,11 @@ module _ (trace : Trace) where
         (let c = count-of trace t places described l st in let h = st .entered in omega arith)
         ∙ sym (scheduled-at st′))
 
-    go : {i s : ℕ} → i < length trace → s < 6 → Stands b t i s → enters b i (suc s) ≤ suc t → moves trace places i ≡ true → cycle trace places i ≡ scheduled b (suc t) i
+    -- one that moves enters the next level, with the whole entry count
+    go : {i s : ℕ} → i < length trace → s < 6 → Stands b t i s →
+        enters b i (suc s) ≤ suc t →
+        moves trace places i ≡ true →
+        cycle trace places i ≡ scheduled b (suc t) i
     unfolding cycle standing behaviour done
     go {i} {s} l m st en e =
         let q = st .stays m in

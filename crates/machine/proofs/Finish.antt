@@ -1,6 +1,6 @@
 -- The finishing time is the greatest of the times at which instructions enter post, 0 for the empty trace: the rules' test of all having
 -- left passes from that time on and not before, so the search for the least finds it.
-use Prim.Native.Nat.{ℕ, zero, suc, _+_, _≤_, _<_}
+use Prim.Native.Nat.{ℕ, zero, suc, _+_, _≤_, _<_, min}
 use mathlib.Core.Bool.{Bool, true, false}
 use mathlib.Core.Path.{_≡_, refl, sym, ap, _∙_}
 use native.Mathlib.Omega.{arith}
@@ -99,10 +99,22 @@ finish-is-least trace =
 pub finish-bounded : FinishBounded
 finish-bounded trace = rw (finish-is trace) (leaves-within trace)
 
--- from the finishing time on everything is in post
+-- all have left from the finishing time on,
+pub all-left-is : (trace : Trace) (t : ℕ) → allLeft trace (after trace t) ≡ leb (finish trace) t
+all-left-is trace t = rw (finish-is trace) (all-left-at trace t)
+
+-- and so a run may stop there
 pub stays-left : (trace : Trace) (t i : ℕ) → i < length trace → finish trace ≤ t → after trace t i ≡ record { stage = post; count = 0 }
 unfolding behaviour entry
 stays-left trace t i l m =
     let p = leaves-by (behaviour trace) (length trace) i l in
     let q = finish-is trace in
     bridge trace t i l ∙ at-post-level (behaviour trace) t i refl (omega arith)
+
+pub run-stops : (trace : Trace) (t i : ℕ) → i < length trace → after trace (min t (finish trace)) i ≡ after trace t i
+run-stops trace t i l = pick (tri t (finish trace))
+  where
+    pick : Tri t (finish trace) → after trace (min t (finish trace)) i ≡ after trace t i
+    pick (less h) = ap (λ (x : ℕ). after trace x i) (omega arith)
+    pick (equal h) = ap (λ (x : ℕ). after trace x i) (omega arith)
+    pick (more h) = stays-left trace (min t (finish trace)) i l (omega arith) ∙ sym (stays-left trace t i l (omega arith))

@@ -158,7 +158,7 @@ longer-behaviour {first} {second} h same =
     record {
       count = slower-behaviour h .count;
       lane = slower-behaviour h .lane;
-      until = λ i s j. waits-alike s (instruction first i) (instruction second i) (instruction first j) (instruction second j) (slower-at h i) (slower-at h j) (fetch-at same i) (access-at same i);
+      until = λ i s j. waits-alike s _ _ _ _ (slower-at h i) (slower-at h j) (fetch-at same i) (access-at same i);
     }
 
 pub added-at-most : AddedAtMost

@@ -10,9 +10,9 @@ use Rattle.machine.specs.Test.{_or_}
 use Rattle.machine.specs.Instruction.{Trace, instruction}
 use Rattle.machine.specs.Rules.{Stage, post, next, same, Place, Places, readyIn, ready, movesWithin, willBeFreeWithin}
 use Rattle.machine.proofs.Numbers.{Tri, less, equal, more, tri}
-use Rattle.machine.proofs.Tests.{Outcome, passes, fails, outcome, never, not-passes, and-passes, and-l, and-r, or-passes-l, or-passes-r, or-passes, every-at, every-passes, is-same, same-fails}
+use Rattle.machine.proofs.Tests.{Outcome, passes, fails, outcome, never, not-passes, and-passes, and-l, and-r, or-passes-l, or-passes-r, or-passes, every-at, every-passes, is-same}
 use Rattle.machine.proofs.Schedule.{Behaviour, shares, Together, early, late, together, shares-early, shares-sym, enters, done, own, share, wait, least}
-use Rattle.machine.proofs.Levels.{stageAt, same-level, next-stage, shares-same, same-shares}
+use Rattle.machine.proofs.Levels.{stageAt, same-level, other-level, next-stage, shares-same, same-shares}
 use Rattle.machine.proofs.Standing.{Stands, stands, levelAt, standing, scheduled, scheduled-at, already, not-yet}
 use Rattle.machine.proofs.Derivation.{behaviour}
 use Rattle.machine.proofs.Readiness.{ready-waits, ready-leaves-pre, waits-ready}
@@ -59,7 +59,7 @@ module _ (trace : Trace) where
         movesWithin k trace places j ≡ true
     unfolding willBeFreeWithin
     free-moves k s j lane m l free e =
-        let busy = same-fails (stageAt lane s) post (λ p. let q = same-level lane true s 6 (omega arith) (omega arith) (is-same (stageAt lane s) post p) in omega arith) in
+        let busy = other-level lane true s 6 (omega arith) (omega arith) (omega arith) in
         or-passes _ _
         (every-at (λ j. not (same (places j .stage) (stageAt lane s)) or movesWithin k trace places j) (length trace) (or-passes _ _ free busy) j l)
         (ap not e)
@@ -92,7 +92,9 @@ module _ (trace : Trace) where
         pick (equal f) = at-it (subst (Stands b t j) f (stands b t j))
         pick (more k) = let p = already (stands b t j) (suc (suc s)) k in omega arith
 
-    pub moves-enters : (d i s : ℕ) → i < length trace → Stands b t i s → s + d ≡ 6 → movesWithin (double d) trace places i ≡ true → enters b i (suc s) ≤ suc t
+    pub moves-enters : (d i s : ℕ) → i < length trace → Stands b t i s → s + d ≡ 6 →
+        movesWithin (double d) trace places i ≡ true →
+        enters b i (suc s) ≤ suc t
     unfolding movesWithin double ready done
     moves-enters zero i s l st e m = never m refl
     moves-enters (suc d) i s l st e m =
@@ -174,7 +176,9 @@ module _ (trace : Trace) where
     post-free i s e =
         or-passes-l _ _ (subst (λ (x : ℕ). same (stageAt (b .lane i) (suc x)) post ≡ true) (sym e) (is-same post post refl))
 
-    pub enters-moves : (d i s : ℕ) → i < length trace → Stands b t i s → s + suc d ≡ 6 → enters b i (suc s) ≤ suc t → movesWithin (double (suc d)) trace places i ≡ true
+    pub enters-moves : (d i s : ℕ) → i < length trace → Stands b t i s → s + suc d ≡ 6 →
+        enters b i (suc s) ≤ suc t →
+        movesWithin (double (suc d)) trace places i ≡ true
     unfolding double
     enters-moves zero i s l st e m = can-move 1 i s l st (omega arith) m (post-free i s (omega arith))
     enters-moves (suc d) i s l st e m =

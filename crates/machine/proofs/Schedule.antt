@@ -1,5 +1,5 @@
 -- The schedule: after how many cycles each instruction enters each level of its way, in closed form, from what instructions do.
--- Levels: 0 pre, 1 IF, 2 ID, 3 EX, 4 MEM, 5 ST or WB, 6 post. Only the four bounds at the end are used elsewhere.
+-- Levels: 0 pre, 1 IF, 2 ID, 3 EX, 4 MEM, 5 ST or WB, 6 post. Only the bounds at the end (own, share, wait, least) are used elsewhere.
 use Prim.Native.Nat.{ℕ, zero, suc, _+_, _≤_, _<_}
 use mathlib.Core.Bool.{Bool, true, false, cond, Bool·beq}
 use mathlib.Core.Path.{_≡_, refl, sym, subst, ap, _∙_}

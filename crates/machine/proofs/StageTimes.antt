@@ -16,7 +16,10 @@ use Rattle.machine.proofs.Dominance.{previous, le-previous, previous-le
 use Rattle.machine.proofs.FetchTime.{loads, stores, load-done, store-done, done-pre}
 
 -- what an instruction in ID and in EX waits for
-ID-within : (kind : Kind) (readsTarget : Bool) (d : ℕ → ℕ) (m : ℕ) → d 0 ≡ 1 → 1 ≤ m → (isLoad kind ≡ true → readsTarget ≡ true → d 4 ≤ m) → d (waitsInID kind readsTarget) ≤ m
+ID-within : (kind : Kind) (readsTarget : Bool) (d : ℕ → ℕ) (m : ℕ) → d 0 ≡ 1 →
+    1 ≤ m →
+    (isLoad kind ≡ true → readsTarget ≡ true → d 4 ≤ m) →
+    d (waitsInID kind readsTarget) ≤ m
 unfolding waitsInID
 ID-within plain r d m o p h = omega arith
 ID-within load true d m o p h = h refl refl
@@ -35,7 +38,9 @@ reads-zero : (i : Instruction) → reads i 0 ≡ false
 unfolding reads _and_
 reads-zero i = refl
 
-EX-within : (kind : Kind) (dataMisses : Bool) (d : ℕ → ℕ) (z : ℕ) → d 0 ≡ 1 → (isStore kind ≡ true → d 5 ≤ z) → d (waitsInEX kind dataMisses) ≤ max 1 (cond dataMisses z 0)
+EX-within : (kind : Kind) (dataMisses : Bool) (d : ℕ → ℕ) (z : ℕ) → d 0 ≡ 1 →
+    (isStore kind ≡ true → d 5 ≤ z) →
+    d (waitsInEX kind dataMisses) ≤ max 1 (cond dataMisses z 0)
 unfolding waitsInEX
 EX-within plain m d z o h = omega arith
 EX-within load m d z o h = omega arith

@@ -9,9 +9,9 @@ use borrow.Author.Tests.{leb-true, leb-false, le-leb, lt-leb, ltb-true, ltb-fals
 use Rattle.machine.specs.Test.{_and_, _or_}
 use Rattle.machine.specs.Rules.{pre, post, rank, same, Place, Places, further, shortOf}
 use Rattle.machine.proofs.Numbers.{Tri, less, equal, more, tri, Last, before, at, last}
-use Rattle.machine.proofs.Tests.{Outcome, passes, fails, outcome, is-same, same-fails, and-fails-l, or-passes-l, or-fails, or-left, and-left}
+use Rattle.machine.proofs.Tests.{Outcome, passes, fails, outcome, is-same, and-fails-l, or-passes-l, or-fails, or-left, and-left}
 use Rattle.machine.proofs.Schedule.{Behaviour, enters, done, starts, own}
-use Rattle.machine.proofs.Levels.{stageAt, rank-stage, same-level}
+use Rattle.machine.proofs.Levels.{stageAt, rank-stage, other-level}
 
 -- Times rise with the level.
 pub enters-before : (b : Behaviour) (i s u : ℕ) → s < u → done b i s ≤ enters b i u
@@ -129,13 +129,15 @@ short-of-level {b} {t} {j} {l} st h m = pick (tri l h)
         ∙ and-left _ _ (is-same (stageAt lane l) (stageAt lane l) refl)
         ∙ left t (enters b j l) (b .count j l) (st .entered))
     pick (more k) =
-        or-fails before-h _ (order ∙ le-ltb l h (omega arith)) (and-fails-l _ _ (same-fails (stageAt lane h) (stageAt lane l) (λ e. let p = same-level lane lane h l m (st .level) (is-same (stageAt lane h) (stageAt lane l) e) in omega arith)))
+        or-fails before-h _ (order ∙ le-ltb l h (omega arith)) (and-fails-l _ _ (other-level lane lane h l m (st .level) (omega arith)))
         ∙ sym (le-ltb t (enters b j h + b .count j h) (let p = enters-before b j h l k in let q = st .entered in omega arith))
 
 in-pre-level : {b : Behaviour} {t j l : ℕ} → Stands b t j l → same (standing b t j l .stage) pre ≡ ltb t (enters b j 1)
 unfolding standing
 in-pre-level {b} {t} {j} {l = zero} st = sym (lt-ltb t (enters b j 1) (not-yet st 1 (omega arith) (omega arith)))
-in-pre-level {b} {t} {j} {l = suc l} st = same-fails (stageAt (b .lane j) (suc l)) pre (λ e. let p = same-level (b .lane j) true (suc l) 0 (st .level) (omega arith) (is-same (stageAt (b .lane j) (suc l)) pre e) in omega arith) ∙ sym (le-ltb t (enters b j 1) (already st 1 (omega arith)))
+in-pre-level {b} {t} {j} {l = suc l} st =
+    other-level (b .lane j) true (suc l) 0 (st .level) (omega arith) (omega arith)
+    ∙ sym (le-ltb t (enters b j 1) (already st 1 (omega arith)))
 
 in-post-level : {b : Behaviour} {t j l : ℕ} → Stands b t j l → same (standing b t j l .stage) post ≡ leb (enters b j 6) t
 unfolding standing
@@ -143,8 +145,7 @@ in-post-level {b} {t} {j} {l} st = pick (last l 6 (let h = st .level in omega ar
   where
     pick : Last l 6 → same (stageAt (b .lane j) l) post ≡ leb (enters b j 6) t
     pick (before m) =
-        same-fails (stageAt (b .lane j) l) post
-        (λ e. let p = same-level (b .lane j) true l 6 (st .level) (omega arith) (is-same (stageAt (b .lane j) l) post e) in omega arith)
+        other-level (b .lane j) true l 6 (st .level) (omega arith) (omega arith)
         ∙ sym (lt-leb (enters b j 6) t (not-yet st 6 m (omega arith)))
     pick (at e) =
         is-same (stageAt (b .lane j) l) post (ap (stageAt (b .lane j)) e) ∙ sym (le-leb (enters b j 6) t (already st 6 (omega arith)))

@@ -42,7 +42,14 @@ module _ (trace : Trace) where
   unfolding scheduledTimes
   times-fit k l =
       subst (TimesWithin (bound (take (suc k) trace))) (sym (window-times trace k))
-      (record { IF = within 1 (omega arith); ID = within 2 (omega arith); EX = within 3 (omega arith); MEM = within 4 (omega arith); last = within 5 (omega arith); post = within 6 (omega arith) })
+      (record {
+        IF = within 1 (omega arith);
+        ID = within 2 (omega arith);
+        EX = within 3 (omega arith);
+        MEM = within 4 (omega arith);
+        last = within 5 (omega arith);
+        post = within 6 (omega arith);
+      })
     where
       within : (s : ℕ) → s ≤ 6 → enters b k s ≤ bound (take (suc k) trace)
       within s m = times-within trace (suc k) k s (omega arith) l m

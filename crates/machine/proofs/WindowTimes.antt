@@ -1,5 +1,5 @@
--- The window before an instruction holds what the closed form needs, so its times are the schedule's; the finishing time and every place follow.
--- What the code of the finishing time and of a run is proved against.
+-- The window before an instruction holds what the closed form needs, so its times are the schedule's, and the last window has the finishing time.
+-- The code of the finishing time and of a run is proved against this.
 use Prim.Native.Nat.{ℕ, zero, suc}
 use mathlib.Core.Path.{_≡_, refl, sym, ap, _∙_}
 use lib.ListN.{length}
