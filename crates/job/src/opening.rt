@@ -13,10 +13,7 @@ pub struct Opened<'a> {
 fn cut(file: &[u8], start: usize, end: usize) -> &[u8]
     ensures { λ r. ⌜ now r ≡ partOf (now (file .entry)) start end ⌝ }
 {
-    if end > file.len() {
-        return &file[..0];
-    }
-    if start > end {
+    if end > file.len() || start > end {
         return &file[..0];
     }
     &file[start..end]
