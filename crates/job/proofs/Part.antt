@@ -18,11 +18,11 @@ use Rattle.job.proofs.Entries.{start-suc}
 use Rattle.job.proofs.Joined.{body-inside}
 
 module _ (file : List ℕ) (trace : ℕ) where
-  opened-file : openRefusal file trace ≡ 0 → fileRefusal file ≡ 0
+  pub opened-file : openRefusal file trace ≡ 0 → fileRefusal file ≡ 0
   unfolding openRefusal
   opened-file e = then-first _ _ e
 
-  opened-trace : openRefusal file trace ≡ 0 → trace < traces file
+  pub opened-trace : openRefusal file trace ≡ 0 → trace < traces file
   unfolding openRefusal
   opened-trace e = ltb-true _ _ (unless-passed _ _ (then-second _ _ e))
 

@@ -3,6 +3,7 @@ ghost use mathlib.Core.Path.{_≡_};
 ghost use Rattle.job.specs.Open.{partOf, openRefusal, openBody};
 use crate::table::locate;
 
+// A refusal's number and an empty part, or 0 and the body.
 #[repr(C)]
 pub struct Opened<'a> {
     pub refusal: u32,
@@ -19,6 +20,7 @@ fn cut(file: &[u8], start: usize, end: usize) -> &[u8]
     &file[start..end]
 }
 
+// The trace's body, handed back as a part of the file, without copying.
 pub fn open<'a>(file: &'a [u8], trace: u32) -> Opened<'a>
     ensures { λ r. ⌜ (r .refusal ≡ openRefusal (now (file .entry)) trace) × (now (r .body) ≡ openBody (now (file .entry)) trace) ⌝ }
 {
