@@ -10,3 +10,4 @@ pub mod Entries
 pub mod Starts
 pub mod Joined
 pub mod Accepted
+pub mod Part
