@@ -13,7 +13,7 @@ use Rattle.record.specs.Layout.{
 }
 use Rattle.record.specs.declared.layout.Fields.{Fields}
 use mathlib.Core.List.{List}
-use mathlib.Core.Path.{_≡_}
+use mathlib.Core.Path.{_≡_, ap}
 use Prim.Native.Nat.{ℕ, _+_, _/_, _%_}
 use borrow.Author.Needs.{needs}
 use Rattle.record.proofs.layout.fields_from.Statement.{statement}
@@ -24,104 +24,107 @@ use Rattle.record.proofs.bytes.byte_at.Reads as byte-at-reads
 use Rattle.record.proofs.bytes.half_at.Reads as half-at-reads
 
 same
-    : (bytes : List ℕ) (at : ℕ) {flags kind source1 source2 target execution fetchLatency dataLatency : ℕ} →
-    flags ≡ byte bytes (at + flagsAt) →
-    kind ≡ byte bytes (at + kindAt) →
-    source1 ≡ byte bytes (at + source1At) →
-    source2 ≡ byte bytes (at + source2At) →
-    target ≡ byte bytes (at + targetAt) →
-    execution ≡ byte bytes (at + executionAt) →
-    fetchLatency ≡ half bytes (at + fetchLatencyAt) →
-    dataLatency ≡ half bytes (at + dataLatencyAt) →
-    _≡_
-    {A = Fields}
-    (record {
-      kind = kind;
-      fetch = flags % 4;
-      access = flags / 4 % 4;
-      source1 = source1;
-      source2 = source2;
-      target = target;
-      execution = execution;
-      «fetch_latency» = fetchLatency;
-      «data_latency» = dataLatency;
-    })
-    (fieldsFrom bytes at)
+    : (bytes : List ℕ) (at : ℕ) (f : Fields) →
+    f .kind ≡ byte bytes (at + kindAt) →
+    f .fetch ≡ byte bytes (at + flagsAt) % 4 →
+    f .access ≡ byte bytes (at + flagsAt) / 4 % 4 →
+    f .source1 ≡ byte bytes (at + source1At) →
+    f .source2 ≡ byte bytes (at + source2At) →
+    f .target ≡ byte bytes (at + targetAt) →
+    f .execution ≡ byte bytes (at + executionAt) →
+    f .«fetch_latency» ≡ half bytes (at + fetchLatencyAt) →
+    f .«data_latency» ≡ half bytes (at + dataLatencyAt) →
+    f ≡ fieldsFrom bytes at
 unfolding fieldsFrom
-same bytes at e0 e1 e2 e3 e4 e5 e6 e7 = rw (e0, e1, e2, e3, e4, e5, e6, e7)
+same bytes at f e0 e1 e2 e3 e4 e5 e6 e7 e8 =
+    λ i.
+    record {
+      kind = e0 i;
+      fetch = e1 i;
+      access = e2 i;
+      source1 = e3 i;
+      source2 = e4 i;
+      target = e5 i;
+      execution = e6 i;
+      «fetch_latency» = e7 i;
+      «data_latency» = e8 i;
+    }
 
--- src/layout.rt:66:32
+-- src/layout.rt:54:32
 add-byte-at : tie.Need-add-byte-at
 add-byte-at c = search needs
 
--- src/layout.rt:66:9
+-- src/layout.rt:54:9
 byte-at-requires : tie.Need-byte-at-requires
 byte-at-requires c κs = search needs
 
--- src/layout.rt:68:30
+-- src/layout.rt:56:30
 add-byte-at-2 : tie.Need-add-byte-at-2
 add-byte-at-2 c = search needs
 
--- src/layout.rt:68:15
+-- src/layout.rt:56:15
 byte-at-requires-2 : tie.Need-byte-at-requires-2
 byte-at-requires-2 c κs = search needs
 
--- src/layout.rt:71:33
+-- src/layout.rt:59:33
 add-byte-at-3 : tie.Need-add-byte-at-3
 add-byte-at-3 c = search needs
 
--- src/layout.rt:71:18
+-- src/layout.rt:59:18
 byte-at-requires-3 : tie.Need-byte-at-requires-3
 byte-at-requires-3 c κs = search needs
 
--- src/layout.rt:72:33
+-- src/layout.rt:60:33
 add-byte-at-4 : tie.Need-add-byte-at-4
 add-byte-at-4 c = search needs
 
--- src/layout.rt:72:18
+-- src/layout.rt:60:18
 byte-at-requires-4 : tie.Need-byte-at-requires-4
 byte-at-requires-4 c κs = search needs
 
--- src/layout.rt:73:32
+-- src/layout.rt:61:32
 add-byte-at-5 : tie.Need-add-byte-at-5
 add-byte-at-5 c = search needs
 
--- src/layout.rt:73:17
+-- src/layout.rt:61:17
 byte-at-requires-5 : tie.Need-byte-at-requires-5
 byte-at-requires-5 c κs = search needs
 
--- src/layout.rt:74:35
+-- src/layout.rt:62:35
 add-byte-at-6 : tie.Need-add-byte-at-6
 add-byte-at-6 c = search needs
 
--- src/layout.rt:74:20
+-- src/layout.rt:62:20
 byte-at-requires-6 : tie.Need-byte-at-requires-6
 byte-at-requires-6 c κs = search needs
 
--- src/layout.rt:75:39
+-- src/layout.rt:63:39
 add-half-at : tie.Need-add-half-at
 add-half-at c = search needs
 
--- src/layout.rt:75:24
+-- src/layout.rt:63:24
 half-at-requires : tie.Need-half-at-requires
 half-at-requires c κs = search needs
 
--- src/layout.rt:76:38
+-- src/layout.rt:64:38
 add-half-at-2 : tie.Need-add-half-at-2
 add-half-at-2 c = search needs
 
--- src/layout.rt:76:23
+-- src/layout.rt:64:23
 half-at-requires-2 : tie.Need-half-at-requires-2
 half-at-requires-2 c κs = search needs
 
--- src/layout.rt:62:1
+-- src/layout.rt:50:1
 returns : tie.Need-returns
 returns c =
+    let flags = c .before .before .before .before .before .before .before .byte-at .ensures .0 in
     same
     _
     _
-    (c .before .before .before .before .before .before .before .byte-at .ensures .0)
+    _
     (c .before .before .before .before .before .before .byte-at2 .ensures .0)
+    (ap (λ (n : ℕ). n % 4) flags)
+    (ap (λ (n : ℕ). n / 4 % 4) flags)
     (c .before .before .before .before .before .byte-at3 .ensures .0)
     (c .before .before .before .before .byte-at4 .ensures .0)
     (c .before .before .before .byte-at5 .ensures .0)
