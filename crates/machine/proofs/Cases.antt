@@ -1,12 +1,16 @@
--- A to L hold, by computation.
-use mathlib.Core.Bool.{true}
-use mathlib.Core.Path.{_≡_, refl}
-use lib.Dec.{T}
+-- A to L and D's chart hold, by computation.
+use mathlib.Core.Path.{refl}
 use Rattle.machine.specs.Test.{_and_, _or_, every, none}
 use Rattle.machine.specs.Rules.{next, further, shortOf, entry, noOlder, reads, missesData, readyIn, ready, budget, movesWithin, moves, cycle, allPre, after, allLeft}
 use Rattle.machine.specs.Time.{bound, leastFrom, finish, settle, best, worst}
-use Rattle.machine.specs.Cases.{cases, casesHold}
+use Rattle.machine.specs.State.{fetchedBelow, occupantBelow, stateOf}
+use Rattle.machine.specs.Cases.{cases, casesHold, caseD, rows, chartOfD}
+use Rattle.machine.specs.Claims.{CasesHold, ChartHolds}
 
-pub cases-hold : T (casesHold cases)
+pub cases-hold : CasesHold
 unfolding _and_ _or_ every none next further shortOf entry noOlder reads missesData readyIn ready budget movesWithin moves cycle allPre after allLeft bound leastFrom finish settle best worst cases casesHold
 cases-hold = tt
+
+pub chart-holds : ChartHolds
+unfolding _and_ _or_ every none next further shortOf entry noOlder reads missesData readyIn ready budget movesWithin moves cycle allPre after fetchedBelow occupantBelow stateOf caseD rows chartOfD
+chart-holds = refl

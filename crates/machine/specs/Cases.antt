@@ -1,11 +1,15 @@
 -- "Charts worked by hand": A to L as data, and the test that each has the finishing times that document 01 gives.
-use Prim.Native.Nat.{ℕ}
-use mathlib.Core.Bool.{Bool, true}
-use mathlib.Core.List.{List, [], _∷_}
+use Prim.Native.Nat.{ℕ, zero, suc}
+use mathlib.Core.Bool.{Bool, true, false}
+use mathlib.Core.List.{List, [], _∷_, _++_}
 use lib.Dec.{eqb}
 use Rattle.machine.specs.Test.{_and_}
 use Rattle.machine.specs.Instruction.{Kind, plain, load, store, branch, Flag, hit, miss, unknown, Instruction, Trace}
+use Rattle.machine.specs.Rules.{after}
 use Rattle.machine.specs.Time.{best, worst}
+use Rattle.machine.specs.State.{emptySlot, stateOf}
+use Rattle.machine.specs.declared.Slot.{Slot}
+use Rattle.machine.specs.declared.State.{State}
 
 pub record Case : Type 0 where
   pub trace : Trace
@@ -64,7 +68,7 @@ registers source1 source2 target i =
 settledCase : Trace → ℕ → Case
 settledCase trace time = record { trace = trace; best = time; worst = time }
 
-caseD : Trace
+unfoldable pub caseD : Trace
 unfolding simple plainOne registers
 caseD = registers 0 0 1 (simple load hit 1) ∷ registers 1 0 2 plainOne ∷ []
 
@@ -88,3 +92,34 @@ cases =
 unfoldable pub casesHold : List Case → Bool
 casesHold [] = true
 casesHold (c ∷ cs) = eqb (best (c .trace)) (c .best) and eqb (worst (c .trace)) (c .worst) and casesHold cs
+
+-- the rows of a chart: the states after 0, 1, .. n - 1 cycles
+unfoldable pub rows : Trace → ℕ → List State
+rows trace zero = []
+rows trace (suc n) = rows trace n ++ (stateOf trace (after trace n) ∷ [])
+
+-- a slot as the chart shows it: index:count, or a dash
+at : ℕ → ℕ → Slot
+at index count = record { filled = true; index = index; count = count }
+
+dash : Slot
+dash = emptySlot
+
+row : ℕ → Slot → Slot → Slot → Slot → Slot → Slot → State
+row fetched inIF inID inEX inMEM inST inWB =
+    record { fetched = fetched; IF = inIF; ID = inID; EX = inEX; MEM = inMEM; ST = inST; WB = inWB }
+
+-- D's chart as document 01 prints it; the first number is the fetched count, which the chart does not show
+unfoldable pub chartOfD : List State
+unfolding at dash row
+chartOfD =
+    row 0 dash dash dash dash dash dash
+    ∷ row 1 (at 0 0) dash dash dash dash dash
+    ∷ row 2 (at 1 0) (at 0 0) dash dash dash dash
+    ∷ row 2 dash (at 1 0) (at 0 0) dash dash dash
+    ∷ row 2 dash (at 1 0) dash (at 0 0) dash dash
+    ∷ row 2 dash dash (at 1 0) dash dash (at 0 0)
+    ∷ row 2 dash dash dash (at 1 0) dash dash
+    ∷ row 2 dash dash dash dash dash (at 1 0)
+    ∷ row 2 dash dash dash dash dash dash
+    ∷ []
