@@ -20,6 +20,7 @@ and-true true b e = (refl, e)
 and-true false b e = (e, cc)
 
 module _ (body : List ℕ) where
+  -- what it takes to be accepted, and below what it gives
   pub accepted-of
       : length body ≡ records body * recordSize →
       records body ≤ 4096 →

@@ -12,6 +12,7 @@ use Rattle.record.proofs.body.length_refusal.Tie as tie
 use Rattle.record.proofs.body.length_refusal.Reads as reads
 use Rattle.record.proofs.body.length_refusal.Lts as lts
 
+-- the answer from what the tests mean, not from how they are written
 module _ (body : List ℕ) where
   broken : (length body % recordSize ≡ 0 → ⊥) → wrongLength ≡ lengthRefusal body
   unfolding lengthRefusal _unless_

@@ -23,6 +23,7 @@ use Rattle.record.proofs.layout.fields_from.Lts as lts
 use Rattle.record.proofs.bytes.byte_at.Reads as byte-at-reads
 use Rattle.record.proofs.bytes.half_at.Reads as half-at-reads
 
+-- field by field, so that a wrong field is refused by its own line
 same
     : (bytes : List ℕ) (at : ℕ) (f : Fields) →
     f .kind ≡ byte bytes (at + kindAt) →
