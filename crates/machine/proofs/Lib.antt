@@ -26,6 +26,7 @@ pub mod Monotone
 pub mod Slower
 pub mod Longer
 pub mod Settlings
+pub mod RunStates
 pub mod Window
 pub mod Dominance
 pub mod FetchTime
