@@ -14,6 +14,7 @@ use Rattle.record.specs.Claims.{AcceptedIsEncoded, EncodingIsDecoded}
 use Rattle.record.proofs.Alike.{fields-alike}
 use Rattle.record.proofs.Accepted.{accepted-of, whole-records, flags-byte, fields-within}
 use Rattle.record.proofs.Encoding.{getD-firsts, length-traceOf, instruction-traceOf, length-bodyOf, records-bodyOf, byte-bodyOf}
+use Rattle.record.proofs.Fits.{encoding-is-bytes}
 use Rattle.record.proofs.Numbers.{kindOf-number, flagOf-number, fetch-of-flags, access-of-flags, half-of-bytes, number-kindOf, number-flagOf, flags-of-parts, low-of-half, high-of-half}
 use Rattle.record.proofs.Within.{Within}
 
@@ -104,6 +105,7 @@ trace-again trace =
 pub encoding-is-decoded : EncodingIsDecoded
 encoding-is-decoded trace few lawful = (
   trace-again trace,
+  encoding-is-bytes trace lawful,
   accepted-of (bodyOf trace) (rw (records-bodyOf trace) (length-bodyOf trace)) (rw (records-bodyOf trace) few) λ k l.
       let inside : k < length trace = omega (arith, records-bodyOf trace) in
       breaks-bodyOf trace k inside ∙ lawful k inside .rules,

@@ -51,7 +51,7 @@ module _ (trace : Trace) where
       settledRefusal (bodyOf trace) ≡ 0
   unfolding unknownAt
   encoding-settled few lawful known =
-      settled-of (bodyOf trace) (encoding-is-decoded trace few lawful .1) λ k l.
+      settled-of (bodyOf trace) (encoding-is-decoded trace few lawful .2) λ k l.
       let inside : k < length trace = omega (arith, records-bodyOf trace) in
       ap hasUnknown (fields-bodyOf trace k inside) ∙ known-record (instruction trace k) (known k inside)
 

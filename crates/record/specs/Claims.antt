@@ -18,10 +18,10 @@ pub record Lawful (i : Instruction) : Type 0 where
   pub dataLatency : i .dataLatency < 65536
   pub rules : breaksAt (recordOf i) 0 ≡ false
 
--- Decoding an encoding gives the trace back, and the encoding is accepted.
+-- Decoding an encoding gives the trace back, and the encoding is made of bytes and accepted.
 abbrev pub EncodingIsDecoded : Type 0
 EncodingIsDecoded =
     (trace : Trace) →
     length trace ≤ 4096 →
     ((k : ℕ) → k < length trace → Lawful (instruction trace k)) →
-    (traceOf (bodyOf trace) ≡ trace) × (bodyRefusal (bodyOf trace) ≡ 0)
+    (traceOf (bodyOf trace) ≡ trace) × Bytes (bodyOf trace) × (bodyRefusal (bodyOf trace) ≡ 0)
