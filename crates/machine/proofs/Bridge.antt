@@ -8,7 +8,7 @@ use lib.ListN.{length}
 use Rattle.machine.specs.Instruction.{Trace, instruction}
 use Rattle.machine.specs.Rules.{Stage, rank, Place, Places, entry, budget, movesWithin, moves, cycle, allPre, after}
 use Rattle.machine.proofs.Numbers.{Tri, less, equal, more, tri, Last, before, at, last}
-use Rattle.machine.proofs.Tests.{Outcome, passes, fails, outcome, never}
+use Rattle.machine.proofs.Connectives.{Value, passed, failed, value, clash}
 use Rattle.machine.proofs.Schedule.{Behaviour, enters, done, starts, own}
 use Rattle.machine.proofs.Levels.{rank-stage}
 use Rattle.machine.proofs.Standing.{Stands, stands, levelAt, standing, scheduled, scheduled-at}
@@ -59,15 +59,15 @@ module _ (trace : Trace) where
     left s m = (5 - s, omega arith)
 
     step-before-post : (i s : ℕ) → i < length trace → s < 6 → Stands b t i s → cycle trace places i ≡ scheduled b (suc t) i
-    step-before-post i s l m st = pick (left s m) (outcome (moves trace places i))
+    step-before-post i s l m st = pick (left s m) (value (moves trace places i))
       where
-        pick : (d : ℕ) × (s + suc d ≡ 6) → Outcome (moves trace places i) → cycle trace places i ≡ scheduled b (suc t) i
-        pick d (passes e) =
+        pick : (d : ℕ) × (s + suc d ≡ 6) → Value (moves trace places i) → cycle trace places i ≡ scheduled b (suc t) i
+        pick d (passed e) =
             go l m st (moves-enters trace t places described (suc (d .0)) i s l st (d .1) (sym (moves-at (suc (d .0)) l st (d .1)) ∙ e)) e
-        pick d (fails e) = stay l st (record { level = st .level; entered = let h = st .entered in omega arith; stays = λ k. later (tri (enters b i (suc s)) (suc (suc t))) }) e
+        pick d (failed e) = stay l st (record { level = st .level; entered = let h = st .entered in omega arith; stays = λ k. later (tri (enters b i (suc s)) (suc (suc t))) }) e
           where
             later : Tri (enters b i (suc s)) (suc (suc t)) → suc t < enters b i (suc s)
-            later (less h) = never (moves-at (suc (d .0)) l st (d .1) ∙ enters-moves trace t places described (d .0) i s l st (d .1) (omega arith)) e
+            later (less h) = clash (moves-at (suc (d .0)) l st (d .1) ∙ enters-moves trace t places described (d .0) i s l st (d .1) (omega arith)) e
             later (equal h) = omega arith
             later (more h) = omega arith
 

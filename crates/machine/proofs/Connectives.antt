@@ -1,10 +1,10 @@
 -- Laws of the shut connectives of tests. Each takes the tests that it is about as explicit arguments, so that a call is `and-l _ _ e`.
 use Prim.Native.Nat.{ℕ, zero, suc, _<_}
 use native.Mathlib.Omega.{arith}
-use mathlib.Core.Bool.{Bool, true, false, not, true≢false}
+use mathlib.Core.Bool.{Bool, true, false, not, true≢false, false≢true}
 use mathlib.Core.Path.{_≡_, refl, sym, ap, _∙_}
-use lib.Dec.{ltb, eqb}
-use borrow.Author.Tests.{ltb-true, ltb-false, eqb-true, eqb-false, not-true}
+use borrow.Author.Tests.{not-true}
+use Rattle.machine.proofs.Numbers.{Tri, less, equal, more, tri}
 use Rattle.machine.specs.Test.{_and_, _or_, every, none}
 
 -- a test does not both pass and fail
@@ -112,22 +112,8 @@ unfolding _or_
 implies true b e p = e
 implies false b e p = clash p refl
 
--- the order of two numbers
-pub data Order (a b : ℕ) : Type 0 where
-  less : a < b → Order a b
-  equal : a ≡ b → Order a b
-  more : b < a → Order a b
-
-pub order : (a b : ℕ) → Order a b
-order a b = by (value (ltb a b)) (value (eqb a b))
-  where
-    by : Value (ltb a b) → Value (eqb a b) → Order a b
-    by (passed l) e = less (ltb-true a b l)
-    by (failed l) (passed e) = equal (eqb-true a b e)
-    by (failed l) (failed e) = more (let g = ltb-false a b l in let n : (a ≡ b → ⊥) = eqb-false a b e in omega arith)
-
 -- Every number below another.
-step : (test : ℕ → Bool) (n : ℕ) → ((k : ℕ) → k < n → test k ≡ true) → test n ≡ true → (k : ℕ) → Order k n → k < suc n → test k ≡ true
+step : (test : ℕ → Bool) (n : ℕ) → ((k : ℕ) → k < n → test k ≡ true) → test n ≡ true → (k : ℕ) → Tri k n → k < suc n → test k ≡ true
 step test n below here k (less l) h = below k l
 step test n below here k (equal e) h = rw e here
 step test n below here k (more g) h = absurd (omega arith)
@@ -136,7 +122,7 @@ module _ (test : ℕ → Bool) where
   pub every-at : (n : ℕ) → every test n ≡ true → (k : ℕ) → k < n → test k ≡ true
   unfolding every
   every-at zero e k h = absurd (omega arith)
-  every-at (suc n) e k h = step test n (every-at n (and-l _ _ e)) (and-r _ _ e) k (order k n) h
+  every-at (suc n) e k h = step test n (every-at n (and-l _ _ e)) (and-r _ _ e) k (tri k n) h
 
   pub every-below : (n : ℕ) → ((k : ℕ) → k < n → test k ≡ true) → every test n ≡ true
   unfolding every
@@ -174,3 +160,42 @@ pub none-unless : (c : Bool) (a : ℕ → Bool) (n : ℕ) → c or none a n ≡ 
 unfolding _and_ _or_
 none-unless true a n = sym (none-below _ n (λ k h. refl))
 none-unless false a n = refl
+
+pub not-passes : (b : Bool) → b ≡ false → not b ≡ true
+not-passes true e = sym e
+not-passes false e = refl
+
+-- a conjunction that failed although one side passed
+pub and-fails : (a b : Bool) → a and b ≡ false → a ≡ true → b ≡ false
+unfolding _and_
+and-fails true b e p = e
+and-fails false b e p = absurd (false≢true p)
+
+-- a side that is decided goes
+pub and-left : (a b : Bool) → a ≡ true → a and b ≡ b
+unfolding _and_
+and-left true b e = refl
+and-left false b e = absurd (false≢true e)
+
+pub or-left : (a b : Bool) → a ≡ false → a or b ≡ b
+unfolding _or_
+or-left true b e = absurd (false≢true (sym e))
+or-left false b e = refl
+
+-- a test of every number is decided by what it says below the bound
+pub every-same : (f g : ℕ → Bool) (n : ℕ) → ((k : ℕ) → k < n → f k ≡ g k) → every f n ≡ every g n
+unfolding every
+every-same f g zero h = refl
+every-same f g (suc n) h = rw (every-same f g n (λ k l. h k (omega arith)), h n (omega arith))
+
+pub none-same : (f g : ℕ → Bool) (n : ℕ) → ((k : ℕ) → k < n → f k ≡ g k) → none f n ≡ none g n
+unfolding none
+none-same f g n h = every-same (λ k. not (f k)) (λ k. not (g k)) n (λ k l. ap not (h k l))
+
+pub none-false : (n : ℕ) → none (λ k. false) n ≡ true
+none-false n = none-below (λ k. false) n (λ k l. refl)
+
+pub not-or-none : (b : Bool) (f : ℕ → Bool) (n : ℕ) → not b or none f n ≡ none (λ k. b and f k) n
+unfolding _and_ _or_
+not-or-none true f n = refl
+not-or-none false f n = sym (none-false n)

@@ -5,7 +5,7 @@ use mathlib.Core.Bool.{Bool, true, cond}
 use mathlib.Core.Path.{_≡_, sym, ap, subst, _∙_}
 use native.Mathlib.Omega.{arith}
 use Rattle.machine.proofs.Numbers.{Last, before, at, last}
-use Rattle.machine.proofs.Tests.{Outcome, passes, fails, outcome, never}
+use Rattle.machine.proofs.Connectives.{Value, passed, failed, value, clash}
 use Rattle.machine.proofs.Schedule.{Behaviour, shares, shares-early, enters, done, own, share}
 
 -- the instruction directly before k entered a level; 0 where there is none
@@ -35,7 +35,7 @@ unfolding previous
 previous-le b zero s p m = omega arith
 previous-le b (suc k) s p m = share-early b (suc k) k s (omega arith) p m
 
--- when the last instruction below k that passes the test is done with a level; 0 where there is none
+-- when the last instruction below k that passed the test is done with a level; 0 where there is none
 unfoldable pub lastDone : Behaviour → (ℕ → Bool) → ℕ → ℕ → ℕ
 lastDone b test s zero = 0
 lastDone b test s (suc k) = cond (test k) (done b k s) (lastDone b test s k)
@@ -43,11 +43,11 @@ lastDone b test s (suc k) = cond (test k) (done b k s) (lastDone b test s k)
 pub last-done-le : (b : Behaviour) (test : ℕ → Bool) (s k m : ℕ) → ((j : ℕ) → j < k → test j ≡ true → done b j s ≤ m) → lastDone b test s k ≤ m
 unfolding lastDone
 last-done-le b test s zero m h = omega arith
-last-done-le b test s (suc k) m h = pick (last-done-le b test s k m (λ j l e. h j (omega arith) e)) (outcome (test k))
+last-done-le b test s (suc k) m h = pick (last-done-le b test s k m (λ j l e. h j (omega arith) e)) (value (test k))
   where
-    pick : lastDone b test s k ≤ m → Outcome (test k) → cond (test k) (done b k s) (lastDone b test s k) ≤ m
-    pick ih (passes e) = rw e (h k (omega arith) e)
-    pick ih (fails e) = rw e ih
+    pick : lastDone b test s k ≤ m → Value (test k) → cond (test k) (done b k s) (lastDone b test s k) ≤ m
+    pick ih (passed e) = rw e (h k (omega arith) e)
+    pick ih (failed e) = rw e ih
 
 pub le-last-done : (b : Behaviour) (test : ℕ → Bool) (s : ℕ) → 0 < s →
     ((i j : ℕ) → test i ≡ true → test j ≡ true → shares b i j s ≡ true) →
@@ -57,10 +57,10 @@ pub le-last-done : (b : Behaviour) (test : ℕ → Bool) (s : ℕ) → 0 < s →
     done b j s ≤ lastDone b test s k
 unfolding lastDone done
 le-last-done b test s p h zero j l e = absurd (omega arith)
-le-last-done b test s p h (suc k) j l e = pick (le-last-done b test s p h k j) (last j k l) (outcome (test k))
+le-last-done b test s p h (suc k) j l e = pick (le-last-done b test s p h k j) (last j k l) (value (test k))
   where
-    pick : (j < k → test j ≡ true → done b j s ≤ lastDone b test s k) → Last j k → Outcome (test k) → done b j s ≤ cond (test k) (done b k s) (lastDone b test s k)
-    pick ih (before m) (passes f) = rw f (let q = own b j s in let r = share-level b k j s m p (h k j f e) in omega arith)
-    pick ih (before m) (fails f) = rw f (ih m e)
-    pick ih (at g) (passes f) = rw f (subst (λ (x : ℕ). done b j s ≤ done b x s) g (omega arith))
-    pick ih (at g) (fails f) = never (ap test (sym g) ∙ e) f
+    pick : (j < k → test j ≡ true → done b j s ≤ lastDone b test s k) → Last j k → Value (test k) → done b j s ≤ cond (test k) (done b k s) (lastDone b test s k)
+    pick ih (before m) (passed f) = rw f (let q = own b j s in let r = share-level b k j s m p (h k j f e) in omega arith)
+    pick ih (before m) (failed f) = rw f (ih m e)
+    pick ih (at g) (passed f) = rw f (subst (λ (x : ℕ). done b j s ≤ done b x s) g (omega arith))
+    pick ih (at g) (failed f) = clash (ap test (sym g) ∙ e) f

@@ -6,7 +6,7 @@ use native.Mathlib.Nat.{le-antisymm, max-le}
 use native.Mathlib.Omega.{arith}
 use Rattle.machine.specs.Instruction.{Kind, plain, load, store, branch, Trace, instruction}
 use Rattle.machine.specs.Rules.{isLoad, isStore, isBranch, hits}
-use Rattle.machine.proofs.Tests.{Outcome, passes, fails, outcome}
+use Rattle.machine.proofs.Connectives.{Value, passed, failed, value}
 use Rattle.machine.proofs.Schedule.{Behaviour, shares-early, shares-last, enters, done, starts, own, wait, least}
 use Rattle.machine.proofs.Derivation.{waitsInPre, waits, behaviour}
 use Rattle.machine.proofs.Dominance.{previous, le-previous, previous-le, lastDone, last-done-le, le-last-done}
@@ -77,11 +77,11 @@ module _ (trace : Trace) where
   unfolding stores behaviour
   store-done = le-last-done b (λ j. isStore (instruction trace j .kind)) 5 (omega arith) (λ i j p q. shares-last b i j (q ∙ sym p))
 
-  missing-waits : (k : ℕ) → Outcome (hits (instruction trace k .fetch)) →
+  missing-waits : (k : ℕ) → Value (hits (instruction trace k .fetch)) →
       cond (hits (instruction trace k .fetch)) 0 (max (loads k) (stores k)) ≤ enters b k 1
   unfolding loads stores behaviour waits
-  missing-waits k (passes e) = rw e (omega arith)
-  missing-waits k (fails e) =
+  missing-waits k (passed e) = rw e (omega arith)
+  missing-waits k (failed e) =
       rw e
       (max-le
       (last-done-le b (λ j. isLoad (instruction trace j .kind)) 4 k (enters b k 1)
@@ -107,4 +107,4 @@ module _ (trace : Trace) where
       (max-le
       (last-done-le b (λ j. isBranch (instruction trace j .kind)) 3 k (enters b k 1)
       (λ j l e. subst (λ (x : ℕ). done b j x ≤ enters b k 1) (branch-waits (instruction trace j .kind) (hits (instruction trace k .fetch)) e) (wait b k j 0 l)))
-      (missing-waits k (outcome (hits (instruction trace k .fetch))))))
+      (missing-waits k (value (hits (instruction trace k .fetch))))))

@@ -12,7 +12,7 @@ use Rattle.machine.specs.Rules.{post, same, Place, entry, after, allLeft
 use Rattle.machine.specs.Time.{bound, leastFrom, finish}
 use Rattle.machine.specs.Claims.{FinishIsLeast, FinishBounded}
 use Rattle.machine.proofs.Numbers.{Tri, less, equal, more, tri, greatest, le-greatest, greatest-le}
-use Rattle.machine.proofs.Tests.{equal-tests, every-at, every-passes}
+use Rattle.machine.proofs.Connectives.{both-ways, every-at, every-below}
 use Rattle.machine.proofs.Schedule.{Behaviour, enters}
 use Rattle.machine.proofs.Standing.{in-post, at-post-level}
 use Rattle.machine.proofs.Derivation.{behaviour}
@@ -59,7 +59,7 @@ module _ (trace : Trace) where
   pub all-left-at : (t : ℕ) → allLeft trace (after trace t) ≡ leb (lastLeaves b (length trace)) t
   unfolding allLeft
   all-left-at t =
-      equal-tests _ _
+      both-ways _ _
       (λ e.
       le-leb (lastLeaves b (length trace)) t
       (last-leaves-by b (length trace) t
@@ -67,7 +67,7 @@ module _ (trace : Trace) where
       leb-true (enters b i 6) t
       (sym (left-at t i l) ∙ every-at (λ i. same (after trace t i .stage) post) (length trace) e i l))))
       (λ e.
-      every-passes (λ i. same (after trace t i .stage) post) (length trace)
+      every-below (λ i. same (after trace t i .stage) post) (length trace)
       (λ i l.
       left-at t i l
       ∙ le-leb (enters b i 6) t

@@ -6,7 +6,7 @@ use native.Mathlib.Omega.{arith}
 use Rattle.machine.specs.Instruction.{Kind, plain, load, store, branch}
 use Rattle.machine.specs.Rules.{Stage, pre, IF, ID, EX, MEM, ST, WB, post, next, rank, same, isStore}
 use Rattle.machine.proofs.Numbers.{Last, before, at, last}
-use Rattle.machine.proofs.Tests.{same-is, is-same, same-fails}
+use Rattle.machine.proofs.Stages.{same-stage, stage-same, stages-differ}
 use Rattle.machine.proofs.Schedule.{Behaviour, shares, Together, early, late, together, shares-early, shares-last}
 
 -- the stage of an instruction at a level; ST is the last one of a store's lane
@@ -55,19 +55,19 @@ lane-of true = refl
 lane-of false = refl
 
 pub same-level : (a c : Bool) (s u : ℕ) → s ≤ 6 → u ≤ 6 → same (stageAt a s) (stageAt c u) ≡ true → s ≡ u
-same-level a c s u l m e = sym (rank-stage a s l) ∙ ap rank (same-is (stageAt a s) (stageAt c u) e) ∙ rank-stage c u m
+same-level a c s u l m e = sym (rank-stage a s l) ∙ ap rank (same-stage (stageAt a s) (stageAt c u) e) ∙ rank-stage c u m
 
 pub other-level : (a c : Bool) (s u : ℕ) → s ≤ 6 → u ≤ 6 → ¬ (s ≡ u) → same (stageAt a s) (stageAt c u) ≡ false
 other-level a c s u l m h =
-    same-fails (stageAt a s) (stageAt c u) (λ e. h (same-level a c s u l m (is-same (stageAt a s) (stageAt c u) e)))
+    stages-differ (stageAt a s) (stageAt c u) (λ e. h (same-level a c s u l m (stage-same (stageAt a s) (stageAt c u) e)))
 
 -- a stage between pre and post is the same for two instructions exactly where they share it
 pub shares-same : (b : Behaviour) (i j s : ℕ) → shares b i j s ≡ true → same (stageAt (b .lane j) s) (stageAt (b .lane i) s) ≡ true
 shares-same b i j s e = pick (together b i j s e)
   where
     pick : Together b i j s → same (stageAt (b .lane j) s) (stageAt (b .lane i) s) ≡ true
-    pick (early l) = is-same (stageAt (b .lane j) s) (stageAt (b .lane i) s) (stage-early (b .lane j) (b .lane i) s l)
-    pick (late e f) = is-same (stageAt (b .lane j) s) (stageAt (b .lane i) s) (ap (λ (x : Bool). stageAt x s) f)
+    pick (early l) = stage-same (stageAt (b .lane j) s) (stageAt (b .lane i) s) (stage-early (b .lane j) (b .lane i) s l)
+    pick (late e f) = stage-same (stageAt (b .lane j) s) (stageAt (b .lane i) s) (ap (λ (x : Bool). stageAt x s) f)
 
 pub same-shares : (b : Behaviour) (i j s : ℕ) → s ≤ 5 → same (stageAt (b .lane j) s) (stageAt (b .lane i) s) ≡ true → shares b i j s ≡ true
 same-shares b i j s l e = pick (last s 5 (omega arith))
@@ -75,7 +75,7 @@ same-shares b i j s l e = pick (last s 5 (omega arith))
     pick : Last s 5 → shares b i j s ≡ true
     pick (before m) = shares-early b i j s m
     pick (at f) =
-        let g : stageAt (b .lane j) s ≡ stageAt (b .lane i) s = same-is (stageAt (b .lane j) s) (stageAt (b .lane i) s) e in
+        let g : stageAt (b .lane j) s ≡ stageAt (b .lane i) s = same-stage (stageAt (b .lane j) s) (stageAt (b .lane i) s) e in
         let g5 : stageAt (b .lane j) 5 ≡ stageAt (b .lane i) 5 = subst (λ (x : ℕ). stageAt (b .lane j) x ≡ stageAt (b .lane i) x) f g in
         subst (λ (x : ℕ). shares b i j x ≡ true) (sym f) (shares-last b i j (sym (lane-of (b .lane j)) ∙ ap isST g5 ∙ lane-of (b .lane i)))
 

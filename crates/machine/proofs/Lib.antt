@@ -12,7 +12,6 @@ pub mod StepOrderly
 pub mod Step
 pub mod Masks
 pub mod Numbers
-pub mod Tests
 pub mod Schedule
 pub mod Levels
 pub mod Standing

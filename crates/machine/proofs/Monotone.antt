@@ -9,7 +9,7 @@ use borrow.Author.Tests.{le-ltb}
 use Rattle.machine.specs.Test.{_and_}
 use Rattle.machine.specs.Rules.{rank, same, further}
 use Rattle.machine.proofs.Numbers.{Tri, less, equal, more, tri, Last, before, at, last, by-age}
-use Rattle.machine.proofs.Tests.{Outcome, passes, fails, outcome, and-fails-l, and-fails-r, or-fails}
+use Rattle.machine.proofs.Connectives.{Value, passed, failed, value, and-failed-l, and-failed-r, or-failed}
 use Rattle.machine.proofs.Schedule.{Behaviour, shares, enters, done, starts, own, share, wait, least}
 use Rattle.machine.proofs.Levels.{stageAt, rank-stage, same-level}
 use Rattle.machine.proofs.Standing.{enters-before, Stands, stands, standing, scheduled, not-yet}
@@ -58,10 +58,10 @@ enters-later a b h = by-age (Later a b) (later-step a b h)
 further-level : {a b : Behaviour} {t i s u : ℕ} → SlowerBehaviour a b → Stands a t i s → Stands b t i u → further (standing b t i u) (standing a t i s) ≡ false
 unfolding further standing
 further-level {a} {b} {t} {i} {s} {u} h sa sb =
-    or-fails _ _
+    or-failed _ _
     (le-ltb (rank (stageAt (a .lane i) s)) (rank (stageAt (b .lane i) u))
     (let p = rank-stage (a .lane i) s (sa .level) in let q = rank-stage (b .lane i) u (sb .level) in let r = order (tri s u) in omega arith))
-    (pick (outcome (same (stageAt (b .lane i) u) (stageAt (a .lane i) s))))
+    (pick (value (same (stageAt (b .lane i) u) (stageAt (a .lane i) s))))
   where
     order : Tri s u → u ≤ s
     order (less k) = let p = not-yet sa u k (sb .level) in let q = sb .entered in let r = enters-later a b h i u in omega arith
@@ -71,12 +71,12 @@ further-level {a} {b} {t} {i} {s} {u} h sa sb =
     same-count : a .count i s - (t - enters a i s) ≤ b .count i s - (t - enters b i s)
     same-count = let p = enters-later a b h i s in let q = h .count i s in omega arith
 
-    pick : Outcome (same (stageAt (b .lane i) u) (stageAt (a .lane i) s)) →
+    pick : Value (same (stageAt (b .lane i) u) (stageAt (a .lane i) s)) →
         same (stageAt (b .lane i) u) (stageAt (a .lane i) s) and ltb (b .count i u - (t - enters b i u)) (a .count i s - (t - enters a i s)) ≡ false
-    pick (fails e) = and-fails-l _ _ e
-    pick (passes e) =
+    pick (failed e) = and-failed-l _ _ e
+    pick (passed e) =
         let z = same-level (b .lane i) (a .lane i) u s (sb .level) (sa .level) e in
-        and-fails-r _ _
+        and-failed-r _ _
         (le-ltb (b .count i u - (t - enters b i u)) (a .count i s - (t - enters a i s))
         (subst (λ (x : ℕ). a .count i s - (t - enters a i s) ≤ b .count i x - (t - enters b i x)) (sym z) same-count))
 

@@ -10,7 +10,8 @@ use Rattle.machine.specs.Test.{_or_}
 use Rattle.machine.specs.Instruction.{Trace, instruction}
 use Rattle.machine.specs.Rules.{Stage, post, next, same, Place, Places, readyIn, ready, movesWithin, willBeFreeWithin}
 use Rattle.machine.proofs.Numbers.{Tri, less, equal, more, tri}
-use Rattle.machine.proofs.Tests.{Outcome, passes, fails, outcome, never, not-passes, and-passes, and-l, and-r, or-passes-l, or-passes-r, or-passes, every-at, every-passes, is-same}
+use Rattle.machine.proofs.Connectives.{Value, passed, failed, value, clash, not-passes, and-both, and-l, and-r, or-l, or-r, or-else, every-at, every-below}
+use Rattle.machine.proofs.Stages.{stage-same}
 use Rattle.machine.proofs.Schedule.{Behaviour, shares, Together, early, late, together, shares-early, shares-sym, enters, done, own, share, wait, least}
 use Rattle.machine.proofs.Levels.{stageAt, same-level, other-level, next-stage, shares-same, same-shares}
 use Rattle.machine.proofs.Standing.{Stands, stands, levelAt, standing, scheduled, scheduled-at, already, not-yet}
@@ -45,9 +46,9 @@ module _ (trace : Trace) where
     next-of {i} {s} l m st = ap (next (instruction trace i .kind)) (stage-of l st) ∙ next-stage (instruction trace i .kind) s m
 
     -- what moving says
-    passed : {i s : ℕ} → Stands b t i s → (j : ℕ) → j < i → s < 5 → (s ≡ 0 → enters b j 1 ≤ t) → enters b j (suc s) ≤ t
-    passed {s = zero} st j l m first = first refl
-    passed {i} {s = suc s} st j l m first =
+    left-behind : {i s : ℕ} → Stands b t i s → (j : ℕ) → j < i → s < 5 → (s ≡ 0 → enters b j 1 ≤ t) → enters b j (suc s) ≤ t
+    left-behind {s = zero} st j l m first = first refl
+    left-behind {i} {s = suc s} st j l m first =
         let p = share b i j s l (shares-early b i j (suc s) m) in
         let q = st .entered in
         omega arith
@@ -60,8 +61,8 @@ module _ (trace : Trace) where
     unfolding willBeFreeWithin
     free-moves k s j lane m l free e =
         let busy = other-level lane true s 6 (omega arith) (omega arith) (omega arith) in
-        or-passes _ _
-        (every-at (λ j. not (same (places j .stage) (stageAt lane s)) or movesWithin k trace places j) (length trace) (or-passes _ _ free busy) j l)
+        or-else _ _
+        (every-at (λ j. not (same (places j .stage) (stageAt lane s)) or movesWithin k trace places j) (length trace) (or-else _ _ free busy) j l)
         (ap not e)
 
     share-enters : (k i s j : ℕ) → i < length trace → Stands b t i s → s < 6 →
@@ -86,7 +87,7 @@ module _ (trace : Trace) where
         pick : Tri (levelAt (enters b j) t) (suc s) → enters b j (suc (suc s)) ≤ suc t
         pick (less k) =
             let h = low (together b i j (suc s) e) in
-            let p = passed st j older h first in
+            let p = left-behind st j older h first in
             let q = not-yet (stands b t j) (suc s) k (omega arith) in
             omega arith
         pick (equal f) = at-it (subst (Stands b t j) f (stands b t j))
@@ -96,7 +97,7 @@ module _ (trace : Trace) where
         movesWithin (double d) trace places i ≡ true →
         enters b i (suc s) ≤ suc t
     unfolding movesWithin double ready done
-    moves-enters zero i s l st e m = never m refl
+    moves-enters zero i s l st e m = clash m refl
     moves-enters (suc d) i s l st e m =
         let still = eqb-true (places i .count) 0 (and-l _ _ (and-l _ _ m)) in
         let go : readyIn (stageAt (b .lane i) s) trace places i ≡ true =
@@ -117,8 +118,8 @@ module _ (trace : Trace) where
         movesWithin (suc k) trace places i ≡ true
     unfolding movesWithin ready done
     can-move k i s l st m en free =
-        and-passes _ _
-        (and-passes _ _
+        and-both _ _
+        (and-both _ _
         (eq-eqb (places i .count) 0 (let c = count-of l st in let o = own b i s in omega arith))
         (subst (λ (x : Stage). readyIn x trace places i ≡ true) (sym (stage-of l st))
         (waits-ready trace t places i s (λ j k. described j (omega arith))
@@ -139,7 +140,7 @@ module _ (trace : Trace) where
         willBeFreeWithin (suc k) trace places (stageAt (b .lane i) (suc s)) ≡ true
     unfolding willBeFreeWithin done
     will-be-free k i s l st m en ih =
-        or-passes-r _ _ (every-passes _ (length trace) (λ j h. pick j h (outcome (same (places j .stage) (stageAt (b .lane i) (suc s))))))
+        or-r _ _ (every-below _ (length trace) (λ j h. pick j h (value (same (places j .stage) (stageAt (b .lane i) (suc s))))))
       where
         occupant : (j : ℕ) → Stands b t j (suc s) → shares b i j (suc s) ≡ true → Tri j i → enters b j (suc (suc s)) ≤ suc t
         occupant j sj sh (less h) = let p = share b i j s h sh in omega arith
@@ -158,15 +159,15 @@ module _ (trace : Trace) where
             movesWithin k trace places j ≡ true
         there j h e sj = ih j h sj (occupant j sj (same-shares b i j (suc s) m e) (tri j i))
 
-        pick : (j : ℕ) → j < length trace → Outcome (same (places j .stage) (stageAt (b .lane i) (suc s))) →
+        pick : (j : ℕ) → j < length trace → Value (same (places j .stage) (stageAt (b .lane i) (suc s))) →
             not (same (places j .stage) (stageAt (b .lane i) (suc s))) or movesWithin k trace places j ≡ true
-        pick j h (fails e) = or-passes-l _ _ (not-passes _ e)
-        pick j h (passes e) =
+        pick j h (failed e) = or-l _ _ (not-passes _ e)
+        pick j h (passed e) =
             let sj = stands b t j in
             let f : same (stageAt (b .lane j) (levelAt (enters b j) t)) (stageAt (b .lane i) (suc s)) ≡ true =
             subst (λ (x : Stage). same x (stageAt (b .lane i) (suc s)) ≡ true) (stage-of h sj) e in
             let z = same-level (b .lane j) (b .lane i) _ (suc s) (sj .level) (omega arith) f in
-            or-passes-r _ _
+            or-r _ _
             (there j h
             (subst (λ (x : ℕ). same (stageAt (b .lane j) x) (stageAt (b .lane i) (suc s)) ≡ true) z f)
             (subst (Stands b t j) z sj))
@@ -174,7 +175,7 @@ module _ (trace : Trace) where
     post-free : (i s : ℕ) → s ≡ 5 → willBeFreeWithin 1 trace places (stageAt (b .lane i) (suc s)) ≡ true
     unfolding willBeFreeWithin
     post-free i s e =
-        or-passes-l _ _ (subst (λ (x : ℕ). same (stageAt (b .lane i) (suc x)) post ≡ true) (sym e) (is-same post post refl))
+        or-l _ _ (subst (λ (x : ℕ). same (stageAt (b .lane i) (suc x)) post ≡ true) (sym e) (stage-same post post refl))
 
     pub enters-moves : (d i s : ℕ) → i < length trace → Stands b t i s → s + suc d ≡ 6 →
         enters b i (suc s) ≤ suc t →

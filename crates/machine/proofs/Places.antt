@@ -9,7 +9,8 @@ use Rattle.machine.specs.Instruction.{Trace}
 use Rattle.machine.specs.Rules.{Stage, pre, IF, ID, EX, MEM, ST, WB, Place, Places, same}
 use Rattle.machine.specs.State.{emptySlot, fetchedBelow, occupantBelow, stateOf}
 use Rattle.machine.specs.declared.Slot.{Slot}
-use Rattle.machine.proofs.Connectives.{Value, passed, failed, value, Order, less, equal, more, order}
+use Rattle.machine.proofs.Numbers.{Tri, less, equal, more, tri}
+use Rattle.machine.proofs.Connectives.{Value, passed, failed, value}
 use Rattle.machine.proofs.Stages.{same-stage, stage-same}
 
 module _ (places : Places) where
@@ -21,7 +22,7 @@ module _ (places : Places) where
       fetchedBelow places n ≡ f
   unfolding fetchedBelow
   fetched-is zero f h early late = omega arith
-  fetched-is (suc n) f h early late = by (fetched-is n) (order f (suc n))
+  fetched-is (suc n) f h early late = by (fetched-is n) (tri f (suc n))
     where
       by :
           ((f : ℕ) →
@@ -29,7 +30,7 @@ module _ (places : Places) where
           ((j : ℕ) → j < f → same (places j .stage) pre ≡ false) →
           ((j : ℕ) → f ≤ j → j < n → same (places j .stage) pre ≡ true) →
           fetchedBelow places n ≡ f) →
-          Order f (suc n) →
+          Tri f (suc n) →
           cond (same (places n .stage) pre) (fetchedBelow places n) (suc (fetchedBelow places n)) ≡ f
       by rec (less l) = rw (late n (omega arith) (omega arith)) (rec f (omega arith) early (λ j a b. late j a (omega arith)))
       by rec (equal e) =
@@ -52,7 +53,7 @@ module _ (places : Places) where
         occupantBelow places k n ≡ record { filled = true; index = i; count = places i .count }
     unfolding occupantBelow
     occupant-is i at only zero h = absurd (omega arith)
-    occupant-is i at only (suc n) h = by (occupant-is i at only n) (order i n)
+    occupant-is i at only (suc n) h = by (occupant-is i at only n) (tri i n)
       where
         elsewhere : i < n → Value (same (places n .stage) k) → same (places n .stage) k ≡ false
         elsewhere l (passed e) = let q : n ≡ i = only n (same-stage (places n .stage) k e) in absurd (omega arith)
@@ -63,7 +64,7 @@ module _ (places : Places) where
 
         by :
             (i < n → occupantBelow places k n ≡ here) →
-            Order i n →
+            Tri i n →
             cond (same (places n .stage) k) (record { filled = true; index = n; count = places n .count }) (occupantBelow places k n) ≡ here
         by rec (less l) = rw (elsewhere l (value (same (places n .stage) k))) (rec l)
         by rec (equal e) =

@@ -9,7 +9,7 @@ use borrow.Author.Tests.{ltb-false, le-ltb}
 use Rattle.machine.specs.Test.{_and_, _or_, none}
 use Rattle.machine.specs.Instruction.{Kind, plain, load, store, branch, Instruction, Trace, instruction}
 use Rattle.machine.specs.Rules.{pre, EX, MEM, ST, same, Place, Places, shortOf, isLoad, isStore, isBranch, hits, noOlder, reads, missesData, readyIn}
-use Rattle.machine.proofs.Tests.{Outcome, passes, fails, outcome, and-true, and-false, and-fails-l, or-l, or-r, or-false, or-fails, none-at, none-passes, none-same, none-false, none-or, or-none, not-or-none}
+use Rattle.machine.proofs.Connectives.{Value, passed, failed, value, and-true, and-false, and-failed-l, or-failed-l, or-failed-r, or-false, or-failed, none-at, none-below, none-same, none-false, none-either, none-unless, not-or-none}
 use Rattle.machine.proofs.Schedule.{Behaviour, enters, done}
 use Rattle.machine.proofs.Levels.{stageAt}
 use Rattle.machine.proofs.Standing.{scheduled, isShort, short-of, in-pre, never-short}
@@ -32,7 +32,7 @@ held (suc (suc (suc (suc s)))) i older p = false
 
 gather : (h : Bool) (a c l s : ℕ → Bool) (n : ℕ) →
     none a n and none c n and (h or (none l n and none s n)) ≡ none (λ k. a k or c k or (not h and (l k or s k))) n
-gather h a c l s n = rw (none-or a c n, none-or l s n, or-none h (λ k. l k or s k) n) (none-or (λ k. a k or c k) (λ k. not h and (l k or s k)) n)
+gather h a c l s n = rw (none-either a c n, none-either l s n, none-unless h (λ k. l k or s k) n) (none-either (λ k. a k or c k) (λ k. not h and (l k or s k)) n)
 
 ready-held : (lane : Bool) (s : ℕ) (trace : Trace) (places : Places) (i : ℕ) →
     readyIn (stageAt lane s) trace places i ≡ none (λ j. held s (instruction trace i) (instruction trace j) (places j)) i
@@ -117,13 +117,13 @@ module _ (trace : Trace) where
 
   store-short : (t j : ℕ) → isStore (kind j) and shortOf (scheduled b t j) ST 0 ≡ isStore (kind j) and isShort b t j 5
   unfolding behaviour
-  store-short t j = pick (outcome (isStore (kind j)))
+  store-short t j = pick (value (isStore (kind j)))
     where
-      pick : Outcome (isStore (kind j)) → isStore (kind j) and shortOf (scheduled b t j) ST 0 ≡ isStore (kind j) and isShort b t j 5
-      pick (passes e) =
+      pick : Value (isStore (kind j)) → isStore (kind j) and shortOf (scheduled b t j) ST 0 ≡ isStore (kind j) and isShort b t j 5
+      pick (passed e) =
           ap (λ (x : Bool). isStore (kind j) and x)
           (subst (λ (x : Bool). shortOf (scheduled b t j) (stageAt x 5) 0 ≡ isShort b t j 5) e (short-of b t j 5 (omega arith)))
-      pick (fails e) = rw e (and-fails-l _ _ refl ∙ sym (and-fails-l _ _ refl))
+      pick (failed e) = rw e (and-failed-l _ _ refl ∙ sym (and-failed-l _ _ refl))
 
   held-short : (t j s : ℕ) (i : Instruction) →
       held s i (instruction trace j) (scheduled b t j) ≡ inPre s (ltb t (enters b j 1)) or isShort b t j (waits s i (instruction trace j))
@@ -155,23 +155,23 @@ module _ (trace : Trace) where
     pub ready-waits : readyIn (stageAt (b .lane i) s) trace places i ≡ true → (j : ℕ) → j < i → done b j (b .until i s j) ≤ suc t
     unfolding behind isShort done
     ready-waits e j l =
-        let p = ltb-false t (enters b j (b .until i s j) + b .count j (b .until i s j)) (or-r _ _ (not-behind e j l)) in
+        let p = ltb-false t (enters b j (b .until i s j) + b .count j (b .until i s j)) (or-failed-r _ _ (not-behind e j l)) in
         omega arith
 
     pub ready-leaves-pre : readyIn (stageAt (b .lane i) s) trace places i ≡ true → s ≡ 0 → (j : ℕ) → j < i → enters b j 1 ≤ t
     unfolding behind
-    ready-leaves-pre e z j l = ltb-false t (enters b j 1) (fails-first s (ltb t (enters b j 1)) (or-l _ _ (not-behind e j l)) z)
+    ready-leaves-pre e z j l = ltb-false t (enters b j 1) (fails-first s (ltb t (enters b j 1)) (or-failed-l _ _ (not-behind e j l)) z)
 
     pub waits-ready :
         ((j : ℕ) → j < i → done b j (b .until i s j) ≤ suc t) →
         ((j : ℕ) → j < i → s ≡ 0 → enters b j 1 ≤ t) →
         readyIn (stageAt (b .lane i) s) trace places i ≡ true
     unfolding behind isShort done
-    waits-ready waited first = ready-schedule ∙ none-passes (behind t i s) i clear
+    waits-ready waited first = ready-schedule ∙ none-below (behind t i s) i clear
       where
         clear : (j : ℕ) → j < i → behind t i s j ≡ false
         clear j l =
             let c = waited j l in
-            or-fails _ _
+            or-failed _ _
             (first-fails s (ltb t (enters b j 1)) (λ z. le-ltb t (enters b j 1) (first j l z)))
             (le-ltb t (enters b j (b .until i s j) + b .count j (b .until i s j)) (omega arith))

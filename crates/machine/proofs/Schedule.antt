@@ -7,7 +7,7 @@ use native.Mathlib.Omega.{arith}
 use lib.Dec.{ltb, eqb}
 use borrow.Author.Tests.{lt-ltb, ltb-true, eq-eqb, ne-eqb, eqb-true}
 use Rattle.machine.specs.Test.{_and_, _or_}
-use Rattle.machine.proofs.Tests.{Outcome, passes, fails, outcome, and-l, and-r, and-passes, or-passes-l, or-passes-r, or-passes}
+use Rattle.machine.proofs.Connectives.{Value, passed, failed, value, and-l, and-r, and-both, or-l, or-r, or-else}
 use Rattle.machine.proofs.Numbers.{Last, before, at, last, greatest, base-greatest, le-greatest, greatest-le, greatest-same}
 
 -- What the instructions of a trace do: the entry count of an instruction at a level; whether its last stage is ST; and the level at which an
@@ -81,11 +81,11 @@ beq-is false false e = refl
 
 pub shares-early : (b : Behaviour) (i j s : ℕ) → s < 5 → shares b i j s ≡ true
 unfolding shares
-shares-early b i j s l = or-passes-l _ _ (lt-ltb s 5 l)
+shares-early b i j s l = or-l _ _ (lt-ltb s 5 l)
 
 pub shares-last : (b : Behaviour) (i j : ℕ) → b .lane j ≡ b .lane i → shares b i j 5 ≡ true
 unfolding shares
-shares-last b i j e = or-passes-r _ _ (and-passes _ _ refl (rw e (beq-refl (b .lane i))))
+shares-last b i j e = or-r _ _ (and-both _ _ refl (rw e (beq-refl (b .lane i))))
 
 pub data Together (b : Behaviour) (i j s : ℕ) : Type 0 where
   early : s < 5 → Together b i j s
@@ -93,12 +93,12 @@ pub data Together (b : Behaviour) (i j s : ℕ) : Type 0 where
 
 pub together : (b : Behaviour) (i j s : ℕ) → shares b i j s ≡ true → Together b i j s
 unfolding shares
-together b i j s e = pick (outcome (ltb s 5))
+together b i j s e = pick (value (ltb s 5))
   where
-    pick : Outcome (ltb s 5) → Together b i j s
-    pick (passes p) = early (ltb-true s 5 p)
-    pick (fails p) =
-        let q = or-passes _ _ e p in
+    pick : Value (ltb s 5) → Together b i j s
+    pick (passed p) = early (ltb-true s 5 p)
+    pick (failed p) =
+        let q = or-else _ _ e p in
         late (eqb-true s 5 (and-l _ _ q)) (beq-is (b .lane i) (b .lane j) (and-r _ _ q))
 
 pub shares-sym : (b : Behaviour) (i j s : ℕ) → shares b i j s ≡ true → shares b j i s ≡ true
@@ -143,12 +143,12 @@ unfolding shareTerm waitTerm done
 least-plus b i s a m p q r =
     rw (enters-suc b i s)
     (greatest-le (greatest (done b i s) (shareTerm b (enters b) i s) i) (waitTerm b (enters b) i s) i a m
-    (greatest-le (done b i s) (shareTerm b (enters b) i s) i a m p (λ j l. pick j l (outcome (shares b i j (suc s)))))
+    (greatest-le (done b i s) (shareTerm b (enters b) i s) i a m p (λ j l. pick j l (value (shares b i j (suc s)))))
     r)
   where
-    pick : (j : ℕ) → j < i → Outcome (shares b i j (suc s)) → shareTerm b (enters b) i s j + a ≤ m
-    pick j l (passes e) = rw e (q j l e)
-    pick j l (fails e) = rw e (omega arith)
+    pick : (j : ℕ) → j < i → Value (shares b i j (suc s)) → shareTerm b (enters b) i s j + a ≤ m
+    pick j l (passed e) = rw e (q j l e)
+    pick j l (failed e) = rw e (omega arith)
 
 pub least :
     (b : Behaviour) (i s m : ℕ) →

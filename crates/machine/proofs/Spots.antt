@@ -14,7 +14,8 @@ use Rattle.machine.specs.Rules.{Stage, pre, IF, ID, EX, MEM, ST, WB, pos
 use Rattle.machine.specs.State.{emptySlot, slot, holds, placeOf, stateOf, occupantBelow, younger, Orderly}
 use Rattle.machine.specs.Claims.{PlacesGiveState, PlacesTellStates}
 use Rattle.machine.specs.declared.State.{State}
-use Rattle.machine.proofs.Connectives.{clash, Value, passed, failed, value, Order, less, equal, more, order, and-l, and-r, and-both}
+use Rattle.machine.proofs.Numbers.{Tri, less, equal, more, tri}
+use Rattle.machine.proofs.Connectives.{clash, Value, passed, failed, value, and-l, and-r, and-both}
 use Rattle.machine.proofs.Stages.{stageAt, eight, same-stage, inside, inside-rank, inside-not-pre}
 use Rattle.machine.proofs.Places.{fetched-is, occupant-none, occupant-is, state-agrees}
 
@@ -149,9 +150,9 @@ module _ (trace : Trace) (s : State) (o : Orderly trace s) where
   told post f = clash f refl
 
   pub one-slot : (a b : Stage) → slot s a .filled ≡ true → slot s b .filled ≡ true → slot s a .index ≡ slot s b .index → a ≡ b
-  one-slot a b f g e = by (order (rank a) (rank b))
+  one-slot a b f g e = by (tri (rank a) (rank b))
     where
-      by : Order (rank a) (rank b) → a ≡ b
+      by : Tri (rank a) (rank b) → a ≡ b
       by (less l) = let h = further-older a b f g l in absurd (omega arith)
       by (equal r) =
           sym (told a f) ∙ ap₂ (λ (r i : ℕ). stageOf r (isStore (instruction trace i .kind))) r e ∙ told b g

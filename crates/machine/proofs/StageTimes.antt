@@ -9,7 +9,7 @@ use Rattle.machine.specs.Test.{_and_}
 use Rattle.machine.specs.Instruction.{Kind, plain, load, store, branch, Instruction, Trace, instruction}
 use Rattle.machine.specs.Rules.{IF, EX, MEM, isLoad, isStore, entry, reads, missesData}
 use Rattle.machine.proofs.Numbers.{Last, before, at, last}
-use Rattle.machine.proofs.Tests.{Outcome, passes, fails, outcome}
+use Rattle.machine.proofs.Connectives.{Value, passed, failed, value}
 use Rattle.machine.proofs.Schedule.{Behaviour, shares, Together, early, late, together, shares-last, enters, done, own, share, wait, least}
 use Rattle.machine.proofs.Derivation.{waitsInID, waitsInEX, waits, countAt, last-count, behaviour}
 use Rattle.machine.proofs.Dominance.{previous, le-previous, previous-le, share-early, lastDone, last-done-le}
@@ -98,18 +98,18 @@ module _ (trace : Trace) where
   load-directly-before : (k : ℕ) → cond (reads (instruction trace k) (targetBefore k)) (loads trace k) 0 ≤ enters b k 3
   unfolding targetBefore loads lastDone behaviour waits
   load-directly-before zero = rw (reads-zero (instruction trace 0)) (omega arith)
-  load-directly-before (suc k) = pick (outcome (isLoad (instruction trace k .kind))) (outcome (reads (instruction trace (suc k)) (instruction trace k .target)))
+  load-directly-before (suc k) = pick (value (isLoad (instruction trace k .kind))) (value (reads (instruction trace (suc k)) (instruction trace k .target)))
     where
-      pick : Outcome (isLoad (instruction trace k .kind)) → Outcome (reads (instruction trace (suc k)) (instruction trace k .target)) →
+      pick : Value (isLoad (instruction trace k .kind)) → Value (reads (instruction trace (suc k)) (instruction trace k .target)) →
           cond (reads (instruction trace (suc k)) (cond (isLoad (instruction trace k .kind)) (instruction trace k .target) 0)) (loads trace (suc k)) 0 ≤ enters b (suc k) 3
-      pick (passes e) (passes f) =
+      pick (passed e) (passed f) =
           rw e
           (rw f
           (subst (λ (x : ℕ). done b k x ≤ enters b (suc k) 3)
           (ap (waitsInID (instruction trace k .kind)) f ∙ load-before (instruction trace k .kind) e)
           (wait b (suc k) k 2 (omega arith))))
-      pick (passes e) (fails f) = rw e (rw f (omega arith))
-      pick (fails e) r = rw e (rw (reads-zero (instruction trace (suc k))) (omega arith))
+      pick (passed e) (failed f) = rw e (rw f (omega arith))
+      pick (failed e) r = rw e (rw (reads-zero (instruction trace (suc k))) (omega arith))
 
   pub at-EX : (k : ℕ) →
       enters b k 3
@@ -128,10 +128,10 @@ module _ (trace : Trace) where
       (load-directly-before k))
 
   -- MEM
-  miss-waits : (k : ℕ) → Outcome (missesData (instruction trace k)) → cond (missesData (instruction trace k)) (stores trace k) 0 ≤ enters b k 4
+  miss-waits : (k : ℕ) → Value (missesData (instruction trace k)) → cond (missesData (instruction trace k)) (stores trace k) 0 ≤ enters b k 4
   unfolding stores behaviour waits
-  miss-waits k (fails e) = rw e (omega arith)
-  miss-waits k (passes e) =
+  miss-waits k (failed e) = rw e (omega arith)
+  miss-waits k (passed e) =
       rw e
       (last-done-le b (λ j. isStore (instruction trace j .kind)) 5 k (enters b k 4)
       (λ j l f.
@@ -152,7 +152,7 @@ module _ (trace : Trace) where
       omega arith))
       (max-le
       (max-le (own b k 3) (previous-le b k 4 (omega arith) (omega arith)))
-      (miss-waits k (outcome (missesData (instruction trace k)))))
+      (miss-waits k (value (missesData (instruction trace k)))))
 
   -- post: nothing is shared there and nothing waited for
   pub at-post : (k : ℕ) → enters b k 6 ≡ done b k 5
@@ -170,10 +170,10 @@ module _ (trace : Trace) where
       none-shares (late l e) = absurd (omega arith)
 
   -- the last stage: WB is free in time, ST when the last store is done
-  store-free : (k : ℕ) → Outcome (isStore (instruction trace k .kind)) → cond (isStore (instruction trace k .kind)) (stores trace k) 0 ≤ enters b k 5
+  store-free : (k : ℕ) → Value (isStore (instruction trace k .kind)) → cond (isStore (instruction trace k .kind)) (stores trace k) 0 ≤ enters b k 5
   unfolding stores behaviour
-  store-free k (fails e) = rw e (omega arith)
-  store-free k (passes e) =
+  store-free k (failed e) = rw e (omega arith)
+  store-free k (passed e) =
       rw e
       (last-done-le b (λ j. isStore (instruction trace j .kind)) 5 k (enters b k 5)
       (λ j l f.
@@ -184,13 +184,13 @@ module _ (trace : Trace) where
   last-free : (k j : ℕ) → j < k → shares b k j 5 ≡ true →
       enters b j 6 ≤ max (done b k 4) (cond (isStore (instruction trace k .kind)) (stores trace k) 0)
   unfolding behaviour done
-  last-free k j l e = pick (together b k j 5 e) (outcome (isStore (instruction trace k .kind)))
+  last-free k j l e = pick (together b k j 5 e) (value (isStore (instruction trace k .kind)))
     where
-      pick : Together b k j 5 → Outcome (isStore (instruction trace k .kind)) →
+      pick : Together b k j 5 → Value (isStore (instruction trace k .kind)) →
           enters b j 6 ≤ max (done b k 4) (cond (isStore (instruction trace k .kind)) (stores trace k) 0)
       pick (early m) o = absurd (omega arith)
-      pick (late m f) (passes o) = rw o (let p = at-post j in let q = store-done trace k j l (f ∙ o) in omega arith)
-      pick (late m f) (fails o) =
+      pick (late m f) (passed o) = rw o (let p = at-post j in let q = store-done trace k j l (f ∙ o) in omega arith)
+      pick (late m f) (failed o) =
           let p = at-post j in
           let q = no-count-in-WB (instruction trace j) (f ∙ o) in
           let r = share-early b k j 4 l (omega arith) (omega arith) in
@@ -205,4 +205,4 @@ module _ (trace : Trace) where
       (omega arith)
       (last-free k)
       (λ j l. let p = done-pre b j in omega arith))
-      (max-le (own b k 4) (store-free k (outcome (isStore (instruction trace k .kind)))))
+      (max-le (own b k 4) (store-free k (value (isStore (instruction trace k .kind)))))

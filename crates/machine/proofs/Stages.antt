@@ -4,19 +4,10 @@ use native.Mathlib.Omega.{arith}
 use mathlib.Core.Bool.{Bool, true, false}
 use mathlib.Core.Path.{_≡_, refl, sym, ap, _∙_}
 use lib.Dec.{eqb}
-use borrow.Author.Tests.{eqb-true, eq-eqb}
+use borrow.Author.Tests.{eqb-true, eq-eqb, ne-eqb}
 use Rattle.machine.specs.Rules.{Stage, pre, IF, ID, EX, MEM, ST, WB, post, rank, same}
+pub use Rattle.machine.specs.Rules.{level}
 use Rattle.machine.proofs.Connectives.{clash}
-
-abbrev pub level : Stage → ℕ
-level pre = 0
-level IF = 1
-level ID = 2
-level EX = 3
-level MEM = 4
-level ST = 5
-level WB = 6
-level post = 7
 
 -- levels past 7 do not occur
 abbrev pub stageAt : ℕ → Stage
@@ -43,21 +34,14 @@ eight P a b c d e f g h post = h
 pub stage-level : (a : Stage) → stageAt (level a) ≡ a
 stage-level = eight (λ a. stageAt (level a) ≡ a) refl refl refl refl refl refl refl refl
 
-same-level : (a b : Stage) → same a b ≡ eqb (level a) (level b)
-same-level pre = eight (λ b. same pre b ≡ eqb 0 (level b)) refl refl refl refl refl refl refl refl
-same-level IF = eight (λ b. same IF b ≡ eqb 1 (level b)) refl refl refl refl refl refl refl refl
-same-level ID = eight (λ b. same ID b ≡ eqb 2 (level b)) refl refl refl refl refl refl refl refl
-same-level EX = eight (λ b. same EX b ≡ eqb 3 (level b)) refl refl refl refl refl refl refl refl
-same-level MEM = eight (λ b. same MEM b ≡ eqb 4 (level b)) refl refl refl refl refl refl refl refl
-same-level ST = eight (λ b. same ST b ≡ eqb 5 (level b)) refl refl refl refl refl refl refl refl
-same-level WB = eight (λ b. same WB b ≡ eqb 6 (level b)) refl refl refl refl refl refl refl refl
-same-level post = eight (λ b. same post b ≡ eqb 7 (level b)) refl refl refl refl refl refl refl refl
-
 pub same-stage : (a b : Stage) → same a b ≡ true → a ≡ b
-same-stage a b e = sym (stage-level a) ∙ ap stageAt (eqb-true (level a) (level b) (sym (same-level a b) ∙ e)) ∙ stage-level b
+same-stage a b e = sym (stage-level a) ∙ ap stageAt (eqb-true (level a) (level b) e) ∙ stage-level b
 
 pub stage-same : (a b : Stage) → a ≡ b → same a b ≡ true
-stage-same a b e = same-level a b ∙ eq-eqb (level a) (level b) (ap level e)
+stage-same a b e = eq-eqb (level a) (level b) (ap level e)
+
+pub stages-differ : (a b : Stage) → ¬ (a ≡ b) → same a b ≡ false
+stages-differ a b h = ne-eqb (level a) (level b) (λ e. h (same-stage a b (eq-eqb (level a) (level b) e)))
 
 -- the stages that have a slot
 abbrev pub inside : Stage → Bool

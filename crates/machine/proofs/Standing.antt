@@ -9,7 +9,8 @@ use borrow.Author.Tests.{leb-true, leb-false, le-leb, lt-leb, ltb-true, ltb-fals
 use Rattle.machine.specs.Test.{_and_, _or_}
 use Rattle.machine.specs.Rules.{pre, post, rank, same, Place, Places, further, shortOf}
 use Rattle.machine.proofs.Numbers.{Tri, less, equal, more, tri, Last, before, at, last}
-use Rattle.machine.proofs.Tests.{Outcome, passes, fails, outcome, is-same, and-fails-l, or-passes-l, or-fails, or-left, and-left}
+use Rattle.machine.proofs.Connectives.{Value, passed, failed, value, and-failed-l, or-l, or-failed, or-left, and-left}
+use Rattle.machine.proofs.Stages.{stage-same}
 use Rattle.machine.proofs.Schedule.{Behaviour, enters, done, starts, own}
 use Rattle.machine.proofs.Levels.{stageAt, rank-stage, other-level}
 
@@ -56,11 +57,11 @@ stays-past {times} {t} {s} {l} u e m = pick (last l s m)
 up-to : (times : ℕ → ℕ) (t s : ℕ) → times 0 ≤ t → UpTo times t s (levelUpTo times t s)
 unfolding levelUpTo
 up-to times t zero h = record { level = omega arith; entered = h; stays = λ l. absurd (omega arith) }
-up-to times t (suc s) h = pick (up-to times t s h) (outcome (leb (times (suc s)) t))
+up-to times t (suc s) h = pick (up-to times t s h) (value (leb (times (suc s)) t))
   where
-    pick : UpTo times t s (levelUpTo times t s) → Outcome (leb (times (suc s)) t) → UpTo times t (suc s) (levelUpTo times t (suc s))
-    pick u (passes e) = rw e (record { level = omega arith; entered = leb-true (times (suc s)) t e; stays = λ l. absurd (omega arith) })
-    pick u (fails e) = rw e (record { level = let l = u .level in omega arith; entered = u .entered; stays = stays-past u e })
+    pick : UpTo times t s (levelUpTo times t s) → Value (leb (times (suc s)) t) → UpTo times t (suc s) (levelUpTo times t (suc s))
+    pick u (passed e) = rw e (record { level = omega arith; entered = leb-true (times (suc s)) t e; stays = λ l. absurd (omega arith) })
+    pick u (failed e) = rw e (record { level = let l = u .level in omega arith; entered = u .entered; stays = stays-past u e })
 
 pub stands : (b : Behaviour) (t i : ℕ) → Stands b t i (levelAt (enters b i) t)
 unfolding levelAt
@@ -100,11 +101,11 @@ isShort b t j h = ltb t (enters b j h + b .count j h)
 
 -- a count above 0 is left where the entry count exceeds the cycles since
 left : (t e c : ℕ) → e ≤ t → ltb 0 (c - (t - e)) ≡ ltb t (e + c)
-left t e c l = pick (outcome (ltb t (e + c)))
+left t e c l = pick (value (ltb t (e + c)))
   where
-    pick : Outcome (ltb t (e + c)) → ltb 0 (c - (t - e)) ≡ ltb t (e + c)
-    pick (passes p) = let q = ltb-true t (e + c) p in lt-ltb 0 (c - (t - e)) (omega arith) ∙ sym p
-    pick (fails p) = let q = ltb-false t (e + c) p in le-ltb 0 (c - (t - e)) (omega arith) ∙ sym p
+    pick : Value (ltb t (e + c)) → ltb 0 (c - (t - e)) ≡ ltb t (e + c)
+    pick (passed p) = let q = ltb-true t (e + c) p in lt-ltb 0 (c - (t - e)) (omega arith) ∙ sym p
+    pick (failed p) = let q = ltb-false t (e + c) p in le-ltb 0 (c - (t - e)) (omega arith) ∙ sym p
 
 short-of-level : {b : Behaviour} {t j l : ℕ} → Stands b t j l → (h : ℕ) → h ≤ 6 → shortOf (standing b t j l) (stageAt (b .lane j) h) 0 ≡ isShort b t j h
 unfolding shortOf further standing isShort done
@@ -121,15 +122,15 @@ short-of-level {b} {t} {j} {l} st h m = pick (tri l h)
 
     pick : Tri l h → before-h or (same (stageAt lane h) (stageAt lane l) and ltb 0 (b .count j l - (t - enters b j l))) ≡ ltb t (enters b j h + b .count j h)
     pick (less k) =
-        or-passes-l before-h _ (order ∙ lt-ltb l h k)
+        or-l before-h _ (order ∙ lt-ltb l h k)
         ∙ sym (lt-ltb t (enters b j h + b .count j h) (let p = not-yet st h k m in omega arith))
     pick (equal e) =
         subst (λ (x : ℕ). shortOf (standing b t j l) (stageAt lane x) 0 ≡ isShort b t j x) e
         (or-left _ _ (le-ltb (rank (stageAt lane l)) (rank (stageAt lane l)) (omega arith))
-        ∙ and-left _ _ (is-same (stageAt lane l) (stageAt lane l) refl)
+        ∙ and-left _ _ (stage-same (stageAt lane l) (stageAt lane l) refl)
         ∙ left t (enters b j l) (b .count j l) (st .entered))
     pick (more k) =
-        or-fails before-h _ (order ∙ le-ltb l h (omega arith)) (and-fails-l _ _ (other-level lane lane h l m (st .level) (omega arith)))
+        or-failed before-h _ (order ∙ le-ltb l h (omega arith)) (and-failed-l _ _ (other-level lane lane h l m (st .level) (omega arith)))
         ∙ sym (le-ltb t (enters b j h + b .count j h) (let p = enters-before b j h l k in let q = st .entered in omega arith))
 
 in-pre-level : {b : Behaviour} {t j l : ℕ} → Stands b t j l → same (standing b t j l .stage) pre ≡ ltb t (enters b j 1)
@@ -148,7 +149,7 @@ in-post-level {b} {t} {j} {l} st = pick (last l 6 (let h = st .level in omega ar
         other-level (b .lane j) true l 6 (st .level) (omega arith) (omega arith)
         ∙ sym (lt-leb (enters b j 6) t (not-yet st 6 m (omega arith)))
     pick (at e) =
-        is-same (stageAt (b .lane j) l) post (ap (stageAt (b .lane j)) e) ∙ sym (le-leb (enters b j 6) t (already st 6 (omega arith)))
+        stage-same (stageAt (b .lane j) l) post (ap (stageAt (b .lane j)) e) ∙ sym (le-leb (enters b j 6) t (already st 6 (omega arith)))
 
 -- where the schedule has instruction j stand
 unfoldable pub scheduled : Behaviour → ℕ → Places

@@ -12,7 +12,8 @@ use Rattle.machine.specs.State.{slot, holds, placeOf, stateOf, Orderly}
 use Rattle.machine.specs.Claims.{CycleKeepsOrderly, CycleGivesPlaces}
 use Rattle.machine.specs.declared.Slot.{Slot}
 use Rattle.machine.specs.declared.State.{State}
-use Rattle.machine.proofs.Connectives.{clash, Value, passed, failed, value, Order, less, equal, more, order, and-l, and-r, and-both}
+use Rattle.machine.proofs.Numbers.{Tri, less, equal, more, tri}
+use Rattle.machine.proofs.Connectives.{clash, Value, passed, failed, value, and-l, and-r, and-both}
 use Rattle.machine.proofs.Stages.{inside}
 use Rattle.machine.proofs.Places.{state-agrees}
 use Rattle.machine.proofs.Spots.{Spot, waiting, held, left, spot, slot-inside, place-waiting, places-give-state}
@@ -157,7 +158,7 @@ module _ (trace : Trace) (s : State) (o : Orderly trace s) where
       (i : ℕ) →
       i < length trace →
       stepBySlots trace s .fetched ≤ i →
-      Order (s .fetched) i →
+      Tri (s .fetched) i →
       Value (leaves trace s pre) →
       cycle trace (placeOf s) i ≡ record { stage = pre; count = 0 }
   unfolding standing
@@ -208,7 +209,7 @@ module _ (trace : Trace) (s : State) (o : Orderly trace s) where
       ∙ ap staying e
 
   cycle-places : (i : ℕ) → i < length trace → {p : Place} → Spot (stepBySlots trace s) i p → p ≡ cycle trace (placeOf s) i
-  cycle-places i h (waiting w) = sym (in-pre i h w (order (s .fetched) i) (value (leaves trace s pre)))
+  cycle-places i h (waiting w) = sym (in-pre i h w (tri (s .fetched) i) (value (leaves trace s pre)))
   cycle-places i h (held k w f d) =
       let in-slot = slot-inside (stepBySlots trace s) k f in
       let a = subst (After trace s k) (sym (slot-after k in-slot)) (after-cycle trace s k) in

@@ -39,18 +39,18 @@ rank WB = 5
 rank post = 6
 
 -- the stages numbered, to tell one from another
-abbrev number : Stage → ℕ
-number pre = 0
-number IF = 1
-number ID = 2
-number EX = 3
-number MEM = 4
-number ST = 5
-number WB = 6
-number post = 7
+abbrev pub level : Stage → ℕ
+level pre = 0
+level IF = 1
+level ID = 2
+level EX = 3
+level MEM = 4
+level ST = 5
+level WB = 6
+level post = 7
 
 abbrev pub same : Stage → Stage → Bool
-same a b = eqb (number a) (number b)
+same a b = eqb (level a) (level b)
 
 -- "Each instruction has a stage and a remaining count."
 pub record Place : Type 0 where
