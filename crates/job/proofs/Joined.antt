@@ -8,6 +8,7 @@ use native.Mathlib.Nat.{add-zero, add-suc, lt-trans, le-refl}
 use lib.ListN.{length, take, drop, length-drop}
 use lib.Seq.{getD-take, getD-drop, length-take-le}
 use Rattle.machine.specs.Test.{_and_, every, none}
+use Rattle.machine.proofs.Connectives.{and-true, none-same}
 use Rattle.record.specs.Refusal.{_then_, _unless_, brokenRecord}
 use Rattle.record.specs.Layout.{recordSize, byte}
 use Rattle.record.specs.Body.{records, breaksAt, recordRefusal}
@@ -25,11 +26,6 @@ unfolding _and_
 and-assoc true b c = refl
 and-assoc false b c = refl
 
-and-true : (a : Bool) → (a and true) ≡ a
-unfolding _and_
-and-true true = refl
-and-true false = refl
-
 -- a test below n + m is one below n and one of the m after
 none-split : (test : ℕ → Bool) (n m : ℕ) → none test (n + m) ≡ (none test n and none (λ k. test (n + k)) m)
 unfolding none every
@@ -38,12 +34,6 @@ none-split test n (suc m) =
     ap (every (λ k. not (test k))) (add-suc n m)
     ∙ ap (λ (b : Bool). b and not (test (n + m))) (none-split test n m)
     ∙ and-assoc _ _ _
-
-none-same : (f g : ℕ → Bool) (n : ℕ) → ((k : ℕ) → k < n → f k ≡ g k) → none f n ≡ none g n
-unfolding none every
-none-same f g zero h = refl
-none-same f g (suc n) h =
-    ap₂ (λ (a b : Bool). a and not b) (none-same f g n (λ k l. h k (lt-trans l (le-refl (suc n))))) (h n (le-refl (suc n)))
 
 unless-and : (a b : Bool) → (brokenRecord unless (a and b)) ≡ ((brokenRecord unless a) then (brokenRecord unless b))
 unfolding _unless_ _then_ _and_

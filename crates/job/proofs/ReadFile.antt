@@ -13,7 +13,7 @@ use Rattle.record.specs.Refusal.{_then_, _unless_}
 use Rattle.record.specs.Layout.{recordSize, byte, half, word}
 use Rattle.record.specs.Body.{Bytes, halfBytes, firsts, recordRefusal}
 use Rattle.record.proofs.Refusals.{go-on, passes, last-passes}
-use Rattle.record.proofs.Scan.{none-of}
+use Rattle.machine.proofs.Connectives.{none-below}
 use Rattle.record.proofs.Encoding.{length-firsts, getD-firsts}
 use Rattle.record.proofs.Numbers.{low-of-half, high-of-half}
 use Rattle.job.specs.Refusal.{shortOutput}
@@ -140,7 +140,7 @@ module _ (file : List ℕ) (bytes : Bytes file) (fine : FileFine file) where
   small-again : 0 ≡ countsRefusal (countsOf file)
   unfolding countsRefusal
   small-again =
-      last-passes 5 (none-of _ _ λ t l.
+      last-passes 5 (none-below _ _ λ t l.
       let lt = subst (λ (n : ℕ). t < n) counts-length l in
       le-ltb _ _ (subst (λ (n : ℕ). n ≤ maxCount) (sym (counts-at t lt)) (fine .entries t lt .0)))
 

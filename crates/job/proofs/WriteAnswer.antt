@@ -11,7 +11,7 @@ use Rattle.machine.specs.Test.{none}
 use Rattle.record.specs.Layout.{recordSize}
 use Rattle.record.specs.Body.{halfBytes, recordRefusal}
 use Rattle.record.proofs.Refusals.{then-first, then-second, unless-passed}
-use Rattle.record.proofs.Scan.{none-at}
+use Rattle.machine.proofs.Connectives.{none-at}
 use Rattle.job.specs.Layout.{headerSize, maxTraces, maxCount, maxFile, entryAt, bodyStart}
 use Rattle.job.specs.Write.{count, sum, fileLength, countsRefusal, writeRefusal, tableOf, fileOf, writeAnswer, writeOutput}
 use Rattle.job.specs.declared.writing.Written.{Written}

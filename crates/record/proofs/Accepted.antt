@@ -11,7 +11,7 @@ use Rattle.record.specs.Layout.{recordSize, flagsAt, byte}
 use Rattle.record.specs.Rules.{hasUnknown}
 use Rattle.record.specs.Body.{Bytes, records, fieldsAt, breaksAt, unknownAt, lengthRefusal, recordRefusal, unknownRefusal, bodyRefusal, settledRefusal}
 use Rattle.record.proofs.Refusals.{then-none, then-first, then-second, unless-passed, last-passes}
-use Rattle.record.proofs.Scan.{none-at, none-of}
+use Rattle.machine.proofs.Connectives.{none-at, none-below}
 use Rattle.record.proofs.Within.{or-false, Within, within, flags-within, sized}
 
 and-true : (a b : Bool) → (a && b) ≡ true → (a ≡ true) × (b ≡ true)
@@ -28,11 +28,11 @@ module _ (body : List ℕ) where
   unfolding bodyRefusal lengthRefusal recordRefusal
   accepted-of whole few lawful =
       then-none _ _ (sym (last-passes _ (rw (eq-eqb (length body % recordSize) 0 (omega arith), le-leb (records body) 4096 few))))
-      ∙ sym (last-passes _ (none-of _ _ lawful))
+      ∙ sym (last-passes _ (none-below _ _ lawful))
 
   pub settled-of : bodyRefusal body ≡ 0 → ((k : ℕ) → k < records body → unknownAt body k ≡ false) → settledRefusal body ≡ 0
   unfolding settledRefusal unknownRefusal
-  settled-of accepted known = then-none _ _ accepted ∙ sym (last-passes _ (none-of _ _ known))
+  settled-of accepted known = then-none _ _ accepted ∙ sym (last-passes _ (none-below _ _ known))
 
   module _ (accepted : bodyRefusal body ≡ 0) where
     parts : (lengthRefusal body ≡ 0) × (recordRefusal body ≡ 0)
