@@ -25,7 +25,18 @@ holds-back-requires-6 c κs = search needs
 
 returns : tie.Need-returns
 unfolding heldBack
-returns c = λ trace h ei. either-of (either-of (either-of (either-of (either-of (c .before .before .before .before .before .holds-back .ensures trace ei (h .IF)) (c .before .before .before .before .holds-back2 .ensures trace ei (h .ID))) (c .before .before .before .holds-back3 .ensures trace ei (h .EX))) (c .before .before .holds-back4 .ensures trace ei (h .MEM))) (c .before .holds-back5 .ensures trace ei (h .ST))) (c .holds-back6 .ensures trace ei (h .WB))
+returns c =
+    λ trace h ei.
+    let c3 = c .before .before .before in
+    either-of
+    (either-of
+    (either-of
+    (either-of
+    (either-of (c3 .before .before .holds-back .ensures trace ei (h .IF)) (c3 .before .holds-back2 .ensures trace ei (h .ID)))
+    (c3 .holds-back3 .ensures trace ei (h .EX)))
+    (c .before .before .holds-back4 .ensures trace ei (h .MEM)))
+    (c .before .holds-back5 .ensures trace ei (h .ST)))
+    (c .holds-back6 .ensures trace ei (h .WB))
 
 pub held-back-spec : {M : Type 1} → statement M
 held-back-spec =

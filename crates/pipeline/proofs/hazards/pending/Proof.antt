@@ -12,7 +12,11 @@ goal-requires : tie.Need-goal-requires
 goal-requires c κs = search needs
 
 returns : tie.Need-returns
-returns c = let a = c .before .args in either-of refl (both-of refl refl) ∙ ap (λ (to : ℕ). shortLevel to (a .level) (a .count)) (c .goal .ensures) ∙ sym (pending-level _ (a .level) (a .count) (omega arith) (omega arith))
+returns c =
+    let a = c .before .args in
+    either-of refl (both-of refl refl)
+    ∙ ap (λ (to : ℕ). shortLevel to (a .level) (a .count)) (c .goal .ensures)
+    ∙ sym (pending-level _ (a .level) (a .count) (omega arith) (omega arith))
 
 pub pending-spec : {M : Type 1} → statement M
 pending-spec = tie.close (tie.spec goal-requires returns)

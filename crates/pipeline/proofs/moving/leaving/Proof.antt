@@ -28,7 +28,16 @@ moves-requires-7 : tie.Need-moves-requires-7
 moves-requires-7 c κs = search needs
 
 returns : tie.Need-returns
-returns c = let a = c .before .before .before .before .before .before .before .args in bits-are (movesAt (bits (a .going)) (bits (a .full)) (a .store)) (c .before .before .before .before .before .before .moves .ensures) (c .before .before .before .before .before .moves2 .ensures) (c .before .before .before .before .moves3 .ensures) (c .before .before .before .moves4 .ensures) (c .before .before .moves5 .ensures) (c .before .moves6 .ensures) (c .moves7 .ensures)
+returns c =
+    let a = c .before .before .before .before .before .before .before .args in
+    bits-are (movesAt (bits (a .going)) (bits (a .full)) (a .store))
+    (c .before .before .before .before .before .before .moves .ensures)
+    (c .before .before .before .before .before .moves2 .ensures)
+    (c .before .before .before .before .moves3 .ensures)
+    (c .before .before .before .moves4 .ensures)
+    (c .before .before .moves5 .ensures)
+    (c .before .moves6 .ensures)
+    (c .moves7 .ensures)
 
 pub leaving-spec : {M : Type 1} → statement M
 leaving-spec =

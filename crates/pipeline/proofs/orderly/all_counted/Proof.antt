@@ -1,10 +1,10 @@
 -- `pipeline::orderly::all_counted` meets its contract: each slot's count against its entry count.
 use mathlib.Core.Path.{ap, _∙_}
 use borrow.Author.Needs.{needs}
-use Rattle.machine.specs.Rules.{IF, MEM, ST, entry}
-use Rattle.machine.specs.Instruction.{Instruction}
+use Rattle.machine.specs.Rules.{IF, EX, MEM, ST, entry}
 use Rattle.record.specs.Rules.{instructionOf}
 use Rattle.pipeline.specs.Orderly.{countOf}
+use Rattle.pipeline.proofs.Entry.{entry-of}
 use Rattle.pipeline.proofs.Joined.{both-of}
 use Rattle.pipeline.proofs.orderly.all_counted.Statement.{statement}
 use Rattle.pipeline.proofs.orderly.all_counted.Tie as tie
@@ -38,7 +38,24 @@ counted-requires-6 c κs = search needs
 
 returns : tie.Need-returns
 unfolding entry instructionOf
-returns c = λ trace h. let s = c .before .before .before .before .before .before .before .before .before .args .s in both-of (both-of (both-of (both-of (both-of (c .before .before .before .before .before .before .before .counted .ensures ∙ ap (countOf (s .IF)) (c .before .before .before .before .before .before .before .before .entry-IF .ensures ∙ ap (λ (i : Instruction). entry i IF) (h .IF))) (c .before .before .before .before .before .before .counted2 .ensures)) (c .before .before .before .before .before .counted3 .ensures ∙ ap (countOf (s .EX)) (ap (λ (i : Instruction). i .executionLatency) (h .EX)))) (c .before .before .before .counted4 .ensures ∙ ap (countOf (s .MEM)) (c .before .before .before .before .entry-MEM .ensures ∙ ap (λ (i : Instruction). entry i MEM) (h .MEM)))) (c .before .counted5 .ensures ∙ ap (countOf (s .ST)) (c .before .before .entry-ST .ensures ∙ ap (λ (i : Instruction). entry i ST) (h .ST)))) (c .counted6 .ensures)
+returns c =
+    λ trace h.
+    let c2 = c .before .before in
+    let c4 = c2 .before .before in
+    let c6 = c4 .before .before in
+    let c8 = c6 .before .before in
+    let s = c8 .before .args .s in
+    both-of
+    (both-of
+    (both-of
+    (both-of
+    (both-of
+    (c6 .before .counted .ensures ∙ ap (countOf (s .IF)) (c8 .entry-IF .ensures ∙ entry-of IF (h .IF)))
+    (c6 .counted2 .ensures))
+    (c4 .before .counted3 .ensures ∙ ap (countOf (s .EX)) (entry-of EX (h .EX))))
+    (c2 .before .counted4 .ensures ∙ ap (countOf (s .MEM)) (c4 .entry-MEM .ensures ∙ entry-of MEM (h .MEM))))
+    (c .before .counted5 .ensures ∙ ap (countOf (s .ST)) (c2 .entry-ST .ensures ∙ entry-of ST (h .ST))))
+    (c .counted6 .ensures)
 
 pub all-counted-spec : {M : Type 1} → statement M
 all-counted-spec =

@@ -43,7 +43,20 @@ in-turn-requires-5 c κs = search needs
 
 returns : tie.Need-returns
 unfolding younger
-returns c = let s = c .before .before .before .before .before .before .before .before .before .before .args .s in let one = c .before .before .before .before .before .before .before .before .before .filled .ensures .0 in let two = ap₂ _+_ one (c .before .before .before .before .before .before .before .before .filled2 .ensures .0) in let three = ap₂ _+_ two (c .before .before .before .before .before .before .before .filled3 .ensures .0) in both-of (both-of (both-of (both-of (both-of refl (c .before .before .before .before .before .in-turn .ensures)) (c .before .before .before .before .in-turn2 .ensures ∙ ap (λ (m : ℕ). turnOf (s .ID) m (s .fetched)) one)) (c .before .before .before .in-turn3 .ensures ∙ ap (λ (m : ℕ). turnOf (s .EX) m (s .fetched)) two)) (c .before .before .in-turn4 .ensures ∙ ap (λ (m : ℕ). turnOf (s .MEM) m (s .fetched)) three)) (c .in-turn5 .ensures ∙ ap (λ (m : ℕ). turnOf (s .WB) m (s .fetched)) (c .before .in-flight .ensures .0))
+returns c =
+    let s = c .before .before .before .before .before .before .before .before .before .before .args .s in
+    let one = c .before .before .before .before .before .before .before .before .before .filled .ensures .0 in
+    let two = ap₂ _+_ one (c .before .before .before .before .before .before .before .before .filled2 .ensures .0) in
+    let three = ap₂ _+_ two (c .before .before .before .before .before .before .before .filled3 .ensures .0) in
+    both-of
+    (both-of
+    (both-of
+    (both-of
+    (both-of refl (c .before .before .before .before .before .in-turn .ensures))
+    (c .before .before .before .before .in-turn2 .ensures ∙ ap (λ (m : ℕ). turnOf (s .ID) m (s .fetched)) one))
+    (c .before .before .before .in-turn3 .ensures ∙ ap (λ (m : ℕ). turnOf (s .EX) m (s .fetched)) two))
+    (c .before .before .in-turn4 .ensures ∙ ap (λ (m : ℕ). turnOf (s .MEM) m (s .fetched)) three))
+    (c .in-turn5 .ensures ∙ ap (λ (m : ℕ). turnOf (s .WB) m (s .fetched)) (c .before .in-flight .ensures .0))
 
 pub in-order-spec : {M : Type 1} → statement M
 in-order-spec =

@@ -19,7 +19,13 @@ all-counted-requires c κs = search needs
 
 returns : tie.Need-returns
 unfolding orderly
-returns c = λ trace h e. let s = c .before .before .before .args .s in both-of (both-of (c .before .before .in-order .ensures ∙ ap (λ (n : ℕ). inOrder n s) (sym e)) (c .before .stores-apart .ensures trace h)) (c .all-counted .ensures trace h) ∙ nine _ _ _ _ _ _ _ _ _ _
+returns c =
+    λ trace h e.
+    let s = c .before .before .before .args .s in
+    both-of
+    (both-of (c .before .before .in-order .ensures ∙ ap (λ (n : ℕ). inOrder n s) (sym e)) (c .before .stores-apart .ensures trace h))
+    (c .all-counted .ensures trace h)
+    ∙ nine _ _ _ _ _ _ _ _ _ _
 
 pub orderly-spec : {M : Type 1} → statement M
 orderly-spec =

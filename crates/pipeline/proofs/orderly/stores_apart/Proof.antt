@@ -26,7 +26,14 @@ cast-below-2 c = search needs
 
 returns : tie.Need-returns
 unfolding instructionOf
-returns c = λ trace h. let s = c .before .before .before .before .before .before .before .before .args .s in both-of (both-of (either-of refl (ap not (sym (store-number _) ∙ ap (λ (i : Instruction). isStore (i .kind)) (h .WB)))) (either-of refl (ap (λ (m : ℕ). ltb (s .ST .index + m) (s .fetched)) (c .before .before .before .before .before .before .in-flight .ensures .0)))) (either-of refl (sym (store-number _) ∙ ap (λ (i : Instruction). isStore (i .kind)) (h .ST)))
+returns c =
+    λ trace h.
+    let s = c .before .before .before .before .before .before .before .before .args .s in
+    both-of
+    (both-of
+    (either-of refl (ap not (sym (store-number _) ∙ ap (λ (i : Instruction). isStore (i .kind)) (h .WB))))
+    (either-of refl (ap (λ (m : ℕ). ltb (s .ST .index + m) (s .fetched)) (c .before .before .before .before .before .before .in-flight .ensures .0))))
+    (either-of refl (sym (store-number _) ∙ ap (λ (i : Instruction). isStore (i .kind)) (h .ST)))
 
 pub stores-apart-spec : {M : Type 1} → statement M
 stores-apart-spec =

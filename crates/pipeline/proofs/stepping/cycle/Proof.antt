@@ -34,7 +34,18 @@ slots-after-requires c κs = search needs
 
 returns : tie.Need-returns
 unfolding storeInMEM instructionOf
-returns c = λ trace h e. let a = c .before .before .before .before .before .before .before .args in let store : eqb (a .w .MEM .kind) 2 ≡ storeInMEM trace (a .s) = sym (store-number _) ∙ ap (λ (i : Instruction). isStore (i .kind)) (h .MEM) in c .slots-after .ensures trace h (c .before .leaving .ensures ∙ leaving-is trace (a .s) (c .before .before .before .before .mask .ensures ∙ ap (λ (b : Bits). maskOf (bitOf b)) (c .before .before .before .before .before .going .ensures trace h e)) (c .before .before .mask2 .ensures ∙ ap (λ (b : Bits). maskOf (bitOf b)) (c .before .before .before .full .ensures trace e)) store) store
+returns c =
+    λ trace h e.
+    let c4 = c .before .before .before .before in
+    let a = c4 .before .before .before .args in
+    let store : eqb (a .w .MEM .kind) 2 ≡ storeInMEM trace (a .s) = sym (store-number _) ∙ ap (λ (i : Instruction). isStore (i .kind)) (h .MEM) in
+    c .slots-after .ensures trace h
+    (c .before .leaving .ensures
+    ∙ leaving-is trace (a .s)
+    (c4 .mask .ensures ∙ ap (λ (b : Bits). maskOf (bitOf b)) (c4 .before .going .ensures trace h e))
+    (c .before .before .mask2 .ensures ∙ ap (λ (b : Bits). maskOf (bitOf b)) (c .before .before .before .full .ensures trace e))
+    store)
+    store
 
 pub cycle-spec : {M : Type 1} → statement M
 cycle-spec =

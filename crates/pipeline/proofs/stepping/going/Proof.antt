@@ -1,5 +1,4 @@
 -- `pipeline::stepping::going` meets its contract: bit by bit; only in pre, ID and EX can something be held back.
-use Prim.Native.Nat.{ℕ}
 use mathlib.Core.Path.{refl, sym, ap, _∙_}
 use mathlib.Core.Bool.{not}
 use lib.Dec.{ltb}
@@ -41,7 +40,20 @@ counted-down-requires-6 c κs = search needs
 
 returns : tie.Need-returns
 unfolding standing goes waitsFor
-returns c = λ trace h e. let s = c .before .before .before .before .before .before .before .before .before .before .args .s in bits-are (goes trace s) (both-of (ap (λ (n : ℕ). ltb (s .fetched) n) (sym e) ∙ sym (and-true _)) (ap not (c .before .before .before .before .before .before .before .before .held-back .ensures trace h (h .pre)))) (c .before .before .before .before .before .before .before .counted-down .ensures ∙ goes-free trace s IF (s .IF .index) (λ i j. refl) _) (both-of (c .before .before .before .before .before .before .counted-down2 .ensures) (ap not (c .before .before .before .before .before .held-back2 .ensures trace h (h .ID)))) (both-of (c .before .before .before .before .counted-down3 .ensures) (ap not (c .before .before .before .held-back3 .ensures trace h (h .EX)))) (c .before .before .counted-down4 .ensures ∙ goes-free trace s MEM (s .MEM .index) (λ i j. refl) _) (c .before .counted-down5 .ensures ∙ goes-free trace s ST (s .ST .index) (λ i j. refl) _) (c .counted-down6 .ensures ∙ goes-free trace s WB (s .WB .index) (λ i j. refl) _)
+returns c =
+    λ trace h e.
+    let c3 = c .before .before .before in
+    let c6 = c3 .before .before .before in
+    let c8 = c6 .before .before in
+    let s = c8 .before .before .args .s in
+    bits-are (goes trace s)
+    (both-of (ap (ltb (s .fetched)) (sym e) ∙ sym (and-true _)) (ap not (c8 .held-back .ensures trace h (h .pre))))
+    (c6 .before .counted-down .ensures ∙ goes-free trace s IF (s .IF .index) (λ i j. refl) _)
+    (both-of (c6 .counted-down2 .ensures) (ap not (c3 .before .before .held-back2 .ensures trace h (h .ID))))
+    (both-of (c3 .before .counted-down3 .ensures) (ap not (c3 .held-back3 .ensures trace h (h .EX))))
+    (c .before .before .counted-down4 .ensures ∙ goes-free trace s MEM (s .MEM .index) (λ i j. refl) _)
+    (c .before .counted-down5 .ensures ∙ goes-free trace s ST (s .ST .index) (λ i j. refl) _)
+    (c .counted-down6 .ensures ∙ goes-free trace s WB (s .WB .index) (λ i j. refl) _)
 
 pub going-spec : {M : Type 1} → statement M
 going-spec =

@@ -16,11 +16,15 @@ less-one-requires c κs = search needs
 
 returns-2 : tie.Need-returns-2
 unfolding slotAfter
-returns-2 c = let a = c .before .before .before .before .args in rw (c .before .before .before .if1 .left, sym (both (a .old .filled) (not (a .gone))) ∙ c .before .if2 .taken, c .less-one .ensures)
+returns-2 c =
+    let a = c .before .before .before .before .args in
+    rw (c .before .before .before .if1 .left, sym (both (a .old .filled) (not (a .gone))) ∙ c .before .if2 .taken, c .less-one .ensures)
 
 returns-3 : tie.Need-returns-3
 unfolding slotAfter
-returns-3 c = let a = c .before .before .before .args in rw (c .before .before .if1 .left, sym (both (a .old .filled) (not (a .gone))) ∙ c .if2 .left)
+returns-3 c =
+    let a = c .before .before .before .args in
+    rw (c .before .before .if1 .left, sym (both (a .old .filled) (not (a .gone))) ∙ c .if2 .left)
 
 pub slot-after-spec : {M : Type 1} → statement M
 slot-after-spec = tie.close (tie.spec returns less-one-requires returns-2 returns-3)

@@ -28,15 +28,32 @@ orderly-requires : tie.Need-orderly-requires
 orderly-requires c κs = search needs
 
 cycle-requires : tie.Need-cycle-requires
-cycle-requires c κs = let a = c .before .before .before .before .before .before .before .args in let o = orderly-is-tested (traceOf (a .body .now)) (a .s) .1 (sym (c .before .orderly .ensures _ (c .before .before .read-stages .ensures) (c .before .before .before .records .ensures .0)) ∙ c .if2 .taken) in let f = o .fetched in omega arith
+cycle-requires c κs =
+    let a = c .before .before .before .before .before .before .before .args in
+    let t = sym (c .before .orderly .ensures _ (c .before .before .read-stages .ensures) (c .before .before .before .records .ensures .0)) ∙ c .if2 .taken in
+    let f = (orderly-is-tested (traceOf (a .body .now)) (a .s) .1 t) .fetched in
+    omega arith
 
 returns-2 : tie.Need-returns-2
 unfolding stepRefusal
-returns-2 c = let a = c .before .before .before .before .before .before .before .before .args in let trace = traceOf (a .body .now) in let t = sym (c .before .before .orderly .ensures trace (c .before .before .before .read-stages .ensures) (c .before .before .before .before .records .ensures .0)) ∙ c .before .if2 .taken in stepped _ _ (go-on (c .before .before .before .before .before .before .settled-refusal .ensures) (c .before .before .before .before .before .if1 .left) (last-passes 12 t)) (c .cycle .ensures trace (c .before .before .before .read-stages .ensures) (c .before .before .before .before .records .ensures .0) ∙ step-by-slots trace (a .s) (orderly-is-tested trace (a .s) .1 t))
+returns-2 c =
+    let c4 = c .before .before .before .before in
+    let a = c4 .before .before .before .before .args in
+    let trace = traceOf (a .body .now) in
+    let reads = c .before .before .before .read-stages .ensures in
+    let long = c4 .records .ensures .0 in
+    let t = sym (c .before .before .orderly .ensures trace reads long) ∙ c .before .if2 .taken in
+    stepped _ _
+    (go-on (c4 .before .before .settled-refusal .ensures) (c4 .before .if1 .left) (last-passes 12 t))
+    (c .cycle .ensures trace reads long ∙ step-by-slots trace (a .s) (orderly-is-tested trace (a .s) .1 t))
 
 returns-3 : tie.Need-returns-3
 unfolding stepRefusal
-returns-3 c = let a = c .before .before .before .before .before .before .before .args in let trace = traceOf (a .body .now) in let t = sym (c .before .orderly .ensures trace (c .before .before .read-stages .ensures) (c .before .before .before .records .ensures .0)) ∙ c .if2 .left in refused _ _ (go-on (c .before .before .before .before .before .settled-refusal .ensures) (c .before .before .before .before .if1 .left) (last-fails 12 t)) (λ z. omega arith)
+returns-3 c =
+    let c3 = c .before .before .before in
+    let trace = traceOf (c3 .before .before .before .before .args .body .now) in
+    let t = sym (c .before .orderly .ensures trace (c .before .before .read-stages .ensures) (c3 .records .ensures .0)) ∙ c .if2 .left in
+    refused _ _ (go-on (c3 .before .before .settled-refusal .ensures) (c3 .before .if1 .left) (last-fails 12 t)) (λ z. omega arith)
 
 pub step-spec : {M : Type 1} → statement M
 step-spec =
