@@ -1,0 +1,24 @@
+-- Step's answer, by the way that the code took.
+use Prim.Native.Nat.{ℕ}
+use mathlib.Core.List.{List}
+use mathlib.Core.Path.{_≡_, refl, sym, ap, _∙_}
+use borrow.Author.Tests.{eq-eqb, ne-eqb}
+use Rattle.machine.specs.Rules.{cycle}
+use Rattle.machine.specs.State.{placeOf, stateOf}
+use Rattle.machine.specs.declared.State.{State}
+use Rattle.record.specs.Body.{traceOf}
+use Rattle.pipeline.specs.Step.{stepRefusal, stepAnswer}
+use Rattle.pipeline.specs.declared.stepping.Stepped.{Stepped}
+
+module _ (body : List ℕ) (s : State) where
+  pub refused : {r : ℕ} → r ≡ stepRefusal body s → (r ≡ 0 → ⊥) → _≡_ {A = Stepped} (record { refusal = r; state = s }) (stepAnswer body s)
+  unfolding stepAnswer
+  refused e h = rw (ne-eqb (stepRefusal body s) 0 (λ z. h (e ∙ z))) (λ i. record { refusal = e i; state = s })
+
+  pub stepped
+      : {r : State} →
+      0 ≡ stepRefusal body s →
+      r ≡ stateOf (traceOf body) (cycle (traceOf body) (placeOf s)) →
+      _≡_ {A = Stepped} (record { refusal = 0; state = r }) (stepAnswer body s)
+  unfolding stepAnswer
+  stepped e q = rw (eq-eqb (stepRefusal body s) 0 (sym e)) (λ i. record { refusal = 0; state = q i })

@@ -1,0 +1,62 @@
+-- Who could move, and what is filled, bit by bit: where no instruction waits for another, none is held back.
+use Prim.Native.Nat.{ℕ, zero, suc}
+use mathlib.Core.Bool.{Bool, true, false, not}
+use mathlib.Core.Path.{_≡_, refl, sym, ap, _∙_}
+use Rattle.machine.specs.Test.{_and_}
+use Rattle.machine.specs.Instruction.{Instruction, Trace}
+use Rattle.machine.specs.Rules.{Stage, pre, IF, ID, EX, MEM, ST, WB}
+use Rattle.machine.specs.declared.Slot.{Slot}
+use Rattle.machine.specs.declared.State.{State}
+use Rattle.machine.proofs.Connectives.{and-failed-r, and-true, or-failed}
+use Rattle.machine.proofs.Stages.{stageAt}
+use Rattle.machine.proofs.BySlots.{waitsFor, holdsBack, heldBack}
+use Rattle.pipeline.specs.Bits.{bitsOf}
+use Rattle.pipeline.specs.declared.moving.Bits.{Bits}
+
+-- only in pre, ID and EX does an instruction wait for another
+pub waits-elsewhere
+    : (n : ℕ) → (n ≡ 0 → ⊥) → (n ≡ 2 → ⊥) → (n ≡ 3 → ⊥) → (i j : Instruction) → waitsFor (stageAt n) i j ≡ false
+unfolding waitsFor
+waits-elsewhere zero a b c i j = absurd (a refl)
+waits-elsewhere (suc zero) a b c i j = refl
+waits-elsewhere (suc (suc zero)) a b c i j = absurd (b refl)
+waits-elsewhere (suc (suc (suc zero))) a b c i j = absurd (c refl)
+waits-elsewhere (suc (suc (suc (suc zero)))) a b c i j = refl
+waits-elsewhere (suc (suc (suc (suc (suc zero))))) a b c i j = refl
+waits-elsewhere (suc (suc (suc (suc (suc (suc zero)))))) a b c i j = refl
+waits-elsewhere (suc (suc (suc (suc (suc (suc (suc n))))))) a b c i j = refl
+
+-- seven bits that a test gives
+pub bits-are
+    : (f : Stage → Bool) {a b c d e g h : Bool} →
+    a ≡ f pre →
+    b ≡ f IF →
+    c ≡ f ID →
+    d ≡ f EX →
+    e ≡ f MEM →
+    g ≡ f ST →
+    h ≡ f WB →
+    _≡_ {A = Bits} (record { pre = a; IF = b; ID = c; EX = d; MEM = e; ST = g; WB = h }) (bitsOf f)
+bits-are f p q r s t u v = λ i. record { pre = p i; IF = q i; ID = r i; EX = s i; MEM = t i; ST = u i; WB = v i }
+
+-- the stages where nothing waits
+abbrev pub never : Stage → Type 0
+never at = (i j : Instruction) → waitsFor at i j ≡ false
+
+module _ (trace : Trace) (s : State) (at : Stage) (i : ℕ) (free : never at) where
+  holds-none : (k : Stage) (held : Slot) → holdsBack trace at i k held ≡ false
+  unfolding holdsBack
+  holds-none k held = and-failed-r _ _ (and-failed-r _ _ (free _ _))
+
+  held-never : heldBack trace s at i ≡ false
+  unfolding heldBack
+  held-never =
+      or-failed _ _
+      (or-failed _ _
+      (or-failed _ _ (or-failed _ _ (or-failed _ _ (holds-none IF (s .IF)) (holds-none ID (s .ID))) (holds-none EX (s .EX))) (holds-none MEM (s .MEM)))
+      (holds-none ST (s .ST)))
+      (holds-none WB (s .WB))
+
+  -- a stage in which nothing waits
+  pub goes-free : (a : Bool) → a ≡ (a and not (heldBack trace s at i))
+  goes-free a = sym (ap (λ (b : Bool). a and not b) held-never ∙ and-true a)

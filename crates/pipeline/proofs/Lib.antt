@@ -1,0 +1,7 @@
+pub mod Numbers
+pub mod Joined
+pub mod Instructions
+pub mod Entry
+pub mod Going
+pub mod Slots
+pub mod Answer

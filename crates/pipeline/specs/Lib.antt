@@ -1,0 +1,4 @@
+pub mod Step
+pub mod Reads
+pub mod Bits
+pub mod Orderly

@@ -1,0 +1,17 @@
+-- What the step's inner functions go by: the fields of the instruction that stands in each stage, read once a cycle. A promise about them is
+-- one for every trace that has these instructions there.
+use mathlib.Core.Path.{_≡_}
+use Rattle.machine.specs.Instruction.{Trace, instruction}
+use Rattle.machine.specs.declared.State.{State}
+use Rattle.record.specs.Rules.{instructionOf}
+use Rattle.pipeline.specs.declared.reading.Standing.{Standing}
+
+-- the fields are those of the trace's instructions that the state names; in pre stands the next to be fetched
+pub record Reads (trace : Trace) (s : State) (w : Standing) : Type 0 where
+  pub pre : instructionOf (w .pre) ≡ instruction trace (s .fetched)
+  pub IF : instructionOf (w .IF) ≡ instruction trace (s .IF .index)
+  pub ID : instructionOf (w .ID) ≡ instruction trace (s .ID .index)
+  pub EX : instructionOf (w .EX) ≡ instruction trace (s .EX .index)
+  pub MEM : instructionOf (w .MEM) ≡ instruction trace (s .MEM .index)
+  pub ST : instructionOf (w .ST) ≡ instruction trace (s .ST .index)
+  pub WB : instructionOf (w .WB) ≡ instruction trace (s .WB .index)

@@ -1,0 +1,92 @@
+// Which older instructions hold another back in its stage. Stages are levels, pre 0 to post 7.
+ghost use mathlib.Core.Path.{_≡_};
+ghost use Prim.Native.Nat.{_<_, _≤_};
+ghost use Rattle.machine.specs.Instruction.{Trace, instruction};
+ghost use Rattle.machine.specs.Rules.{reads};
+ghost use Rattle.machine.specs.declared.State.{State};
+ghost use Rattle.machine.proofs.Stages.{stageAt};
+ghost use Rattle.machine.proofs.BySlots.{pending, waitsFor, holdsBack, heldBack};
+ghost use Rattle.machine.proofs.Masks.{goalLevel};
+ghost use Rattle.record.specs.Rules.{kindOf, instructionOf};
+ghost use Rattle.pipeline.specs.Reads.{Reads};
+use crate::reading::BRANCH;
+use crate::reading::HIT;
+use crate::reading::LOAD;
+use crate::reading::STORE;
+use crate::reading::Standing;
+use crate::reading::misses_data;
+use machine::Slot;
+use machine::State;
+use record::Fields;
+
+// The level that an instruction of the kind has yet to reach with count 0 while others may wait for
+// it; none waits for a plain one.
+fn goal(kind: u32) -> u32
+    ensures { λ r. ⌜ r ≡ goalLevel (kindOf kind) ⌝ }
+{
+    if kind == LOAD {
+        return 4;
+    }
+    if kind == STORE {
+        return 5;
+    }
+    if kind == BRANCH {
+        return 3;
+    }
+    0
+}
+
+fn pending(kind: u32, level: u32, count: u32) -> bool
+    requires { ⌜ (0 < level) × (level ≤ 7) ⌝ }
+    ensures { λ r. ⌜ r ≡ pending (kindOf kind) (record { stage = stageAt level; count = count }) ⌝ }
+{
+    let to = goal(kind);
+    (level < to) | ((level == to) & (count > 0))
+}
+
+fn reads(f: Fields, register: u32) -> bool
+    ensures { λ r. ⌜ r ≡ reads (instructionOf f) register ⌝ }
+{
+    (register != 0) & ((f.source1 == register) | (f.source2 == register))
+}
+
+// At the level the first instruction waits for the second while that is older and pending.
+fn waits_for(level: u32, i: Fields, j: Fields) -> bool
+    ensures { λ r. ⌜ r ≡ waitsFor (stageAt level) (instructionOf i) (instructionOf j) ⌝ }
+{
+    if level == 0 {
+        return (j.kind == BRANCH) | (i.fetch != HIT);
+    }
+    if level == 2 {
+        return (j.kind == LOAD) & reads(i, j.target);
+    }
+    if level == 3 {
+        return (j.kind == STORE) & misses_data(i);
+    }
+    false
+}
+
+// The slot at level k holds instruction `index`, with fields i, back at its level.
+fn holds_back(level: u32, i: Fields, index: u32, k: u32, held: Slot, j: Fields) -> bool
+    requires { ⌜ (0 < k) × (k ≤ 7) ⌝ }
+    ensures { λ r. ⌜ ((trace : Trace) →
+        instructionOf i ≡ instruction trace index →
+        instructionOf j ≡ instruction trace (held .index) →
+        r ≡ holdsBack trace (stageAt level) index (stageAt k) held) ⌝ }
+{
+    held.filled & (held.index < index) & (pending(j.kind, k, held.count) & waits_for(level, i, j))
+}
+
+pub(crate) fn held_back(level: u32, i: Fields, index: u32, s: State, w: Standing) -> bool
+    ensures { λ r. ⌜ ((trace : Trace) →
+        Reads trace s w →
+        instructionOf i ≡ instruction trace index →
+        r ≡ heldBack trace s (stageAt level) index) ⌝ }
+{
+    holds_back(level, i, index, 1, s.IF, w.IF)
+        | holds_back(level, i, index, 2, s.ID, w.ID)
+        | holds_back(level, i, index, 3, s.EX, w.EX)
+        | holds_back(level, i, index, 4, s.MEM, w.MEM)
+        | holds_back(level, i, index, 5, s.ST, w.ST)
+        | holds_back(level, i, index, 6, s.WB, w.WB)
+}

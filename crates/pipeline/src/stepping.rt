@@ -1,0 +1,174 @@
+// Step: the state one cycle on.
+ghost use mathlib.Core.Path.{_≡_};
+ghost use mathlib.Core.Bool.{cond};
+ghost use Prim.Native.Nat.{suc, _≤_};
+ghost use lib.Dec.{eqb};
+ghost use lib.ListN.{length};
+ghost use Rattle.machine.specs.Test.{_and_};
+ghost use Rattle.machine.specs.Instruction.{Trace};
+ghost use Rattle.machine.proofs.BySlots.{goes, occupied, storeInMEM, leaves, slotAfter, stepBySlots};
+ghost use Rattle.record.specs.Body.{traceOf, settledRefusal};
+ghost use Rattle.pipeline.specs.Reads.{Reads};
+ghost use Rattle.pipeline.specs.Bits.{bitsOf};
+ghost use Rattle.pipeline.specs.Step.{stepAnswer};
+use crate::hazards::held_back;
+use crate::moving::Bits;
+use crate::moving::leaving;
+use crate::moving::mask;
+use crate::orderly::orderly;
+use crate::reading::STORE;
+use crate::reading::Standing;
+use crate::reading::entry_IF;
+use crate::reading::entry_MEM;
+use crate::reading::entry_ST;
+use crate::reading::less_one;
+use crate::reading::read_stages;
+use crate::refusal::NOT_ORDERLY;
+use machine::Slot;
+use machine::State;
+use record::layout::RECORD_SIZE;
+use record::settled_refusal;
+
+#[repr(C)]
+pub struct Stepped {
+    pub refusal: u32,
+    pub state: State,
+}
+
+fn counted_down(held: Slot) -> bool
+    ensures { λ r. ⌜ r ≡ (held .filled and eqb (held .count) 0) ⌝ }
+{
+    held.filled & (held.count == 0)
+}
+
+// Which stages' instructions move if their next stage will be free: count 0 and ready.
+fn going(n: u32, s: State, w: Standing) -> Bits
+    ensures { λ r. ⌜ ((trace : Trace) → Reads trace s w → length trace ≡ n → r ≡ bitsOf (goes trace s)) ⌝ }
+{
+    Bits {
+        pre: (s.fetched < n) & !held_back(0, w.pre, s.fetched, s, w),
+        IF: counted_down(s.IF),
+        ID: counted_down(s.ID) & !held_back(2, w.ID, s.ID.index, s, w),
+        EX: counted_down(s.EX) & !held_back(3, w.EX, s.EX.index, s, w),
+        MEM: counted_down(s.MEM),
+        ST: counted_down(s.ST),
+        WB: counted_down(s.WB),
+    }
+}
+
+// Which stages are filled; pre while there is more to fetch.
+fn full(n: u32, s: State) -> Bits
+    ensures { λ r. ⌜ ((trace : Trace) → length trace ≡ n → r ≡ bitsOf (occupied trace s)) ⌝ }
+{
+    Bits {
+        pre: s.fetched < n,
+        IF: s.IF.filled,
+        ID: s.ID.filled,
+        EX: s.EX.filled,
+        MEM: s.MEM.filled,
+        ST: s.ST.filled,
+        WB: s.WB.filled,
+    }
+}
+
+// A slot after the cycle: what comes in, else what stays, its count less 1, else nothing.
+fn slot_after(arrives: bool, index: u32, count: u32, gone: bool, old: Slot) -> Slot
+    ensures { λ r. ⌜ r ≡ slotAfter arrives index count gone old ⌝ }
+{
+    if arrives {
+        return Slot {
+            filled: true,
+            index,
+            count,
+        };
+    }
+    if old.filled & !gone {
+        return Slot {
+            filled: true,
+            index: old.index,
+            count: less_one(old.count),
+        };
+    }
+    Slot {
+        filled: false,
+        index: 0,
+        count: 0,
+    }
+}
+
+fn fetched_after(fetches: bool, fetched: u32) -> u32
+    requires { ⌜ fetched ≤ 4096 ⌝ }
+    ensures { λ r. ⌜ r ≡ cond fetches (suc fetched) fetched ⌝ }
+{
+    if fetches {
+        return fetched + 1;
+    }
+    fetched
+}
+
+// What comes into each slot is what leaves the one before; from MEM a store goes to ST.
+fn slots_after(s: State, w: Standing, moving: Bits, store: bool) -> State
+    requires { ⌜ s .fetched ≤ 4096 ⌝ }
+    ensures { λ r. ⌜ ((trace : Trace) →
+        Reads trace s w →
+        moving ≡ bitsOf (leaves trace s) →
+        store ≡ storeInMEM trace s →
+        r ≡ stepBySlots trace s) ⌝ }
+{
+    State {
+        fetched: fetched_after(moving.pre, s.fetched),
+        IF: slot_after(moving.pre, s.fetched, entry_IF(w.pre), moving.IF, s.IF),
+        ID: slot_after(moving.IF, s.IF.index, 0, moving.ID, s.ID),
+        EX: slot_after(moving.ID, s.ID.index, w.ID.execution, moving.EX, s.EX),
+        MEM: slot_after(moving.EX, s.EX.index, entry_MEM(w.EX), moving.MEM, s.MEM),
+        ST: slot_after(
+            moving.MEM & store,
+            s.MEM.index,
+            entry_ST(w.MEM),
+            moving.ST,
+            s.ST,
+        ),
+        WB: slot_after(moving.MEM & !store, s.MEM.index, 0, moving.WB, s.WB),
+    }
+}
+
+fn cycle(n: u32, s: State, w: Standing) -> State
+    requires { ⌜ s .fetched ≤ 4096 ⌝ }
+    ensures { λ r. ⌜ ((trace : Trace) → Reads trace s w → length trace ≡ n → r ≡ stepBySlots trace s) ⌝ }
+{
+    let store = w.MEM.kind == STORE;
+    let moving = leaving(mask(going(n, s, w)), mask(full(n, s)), store);
+    slots_after(s, w, moving, store)
+}
+
+// How many instructions an accepted body holds.
+fn records(body: &[u8]) -> u32
+    requires { ⌜ settledRefusal (now body) ≡ 0 ⌝ }
+    ensures { λ r. ⌜ (length (traceOf (now (body .entry))) ≡ r) × (r ≤ 4096) ⌝ }
+{
+    (body.len() / RECORD_SIZE) as u32
+}
+
+pub fn step(body: &[u8], s: State) -> Stepped
+    ensures { λ r. ⌜ r ≡ stepAnswer (now (body .entry)) s ⌝ }
+{
+    let fault = settled_refusal(body);
+    if fault != 0 {
+        return Stepped {
+            refusal: fault,
+            state: s,
+        };
+    }
+    let n = records(body);
+    let w = read_stages(body, s);
+    if orderly(n, s, w) {
+        return Stepped {
+            refusal: 0,
+            state: cycle(n, s, w),
+        };
+    }
+    Stepped {
+        refusal: NOT_ORDERLY,
+        state: s,
+    }
+}
