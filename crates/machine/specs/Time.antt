@@ -43,12 +43,12 @@ pub data Settling : Trace → Trace → Type 0 where
   settled-more : {i s : Instruction} {trace settling : Trace} → SettledInstruction i s → Settling trace settling → Settling (i ∷ trace) (s ∷ settling)
 
 -- every unknown flag made the one flag
-settleFlag : Flag → Flag → Flag
+unfoldable pub settleFlag : Flag → Flag → Flag
 settleFlag to hit = hit
 settleFlag to miss = miss
 settleFlag to unknown = to
 
-settleInstruction : Flag → Instruction → Instruction
+unfoldable pub settleInstruction : Flag → Instruction → Instruction
 unfolding settleFlag
 settleInstruction to i =
     record {
