@@ -1,0 +1,49 @@
+-- The trace of an accepted body, for a pass over it: it is small, and reading record k, its unknown flags settled, gives the settled trace's
+-- instruction k.
+use Prim.Native.Nat.{ℕ, _≤_, _<_}
+use mathlib.Core.List.{List}
+use mathlib.Core.Path.{_≡_, sym, ap, subst, _∙_}
+use native.Mathlib.Omega.{arith}
+use borrow.Author.Tests.{lt-ltb}
+use lib.ListN.{length}
+use Rattle.machine.specs.Instruction.{Flag, Instruction, instruction}
+use Rattle.machine.specs.Time.{bound, settleInstruction, settle}
+use Rattle.machine.proofs.Bounds.{Limited, bound-limited}
+use Rattle.record.specs.declared.layout.Fields.{Fields}
+use Rattle.record.specs.declared.layout.Read.{Read}
+use Rattle.record.specs.Rules.{instructionOf}
+use Rattle.record.specs.Body.{Bytes, records, fieldsAt, traceOf, bodyRefusal, readAnswer}
+use Rattle.record.proofs.Accepted.{few-records, fields-within}
+use Rattle.record.proofs.Encoding.{length-traceOf, instruction-traceOf}
+use Rattle.record.proofs.Within.{Within}
+use Rattle.schedule.specs.Code.{maxTime}
+use Rattle.schedule.proofs.Settled.{length-settle, instruction-settle, bound-settle}
+
+within-limited : (f : Fields) → Within f → Limited (instructionOf f)
+unfolding instructionOf
+within-limited f w = record { executionLatency = w .execution; fetchLatency = w .fetchLatency .1; dataLatency = w .dataLatency }
+
+module _ (body : List ℕ) (b : Bytes body) (accepted : bodyRefusal body ≡ 0) where
+  pub small : bound (traceOf body) ≤ maxTime
+  small =
+      bound-limited (traceOf body) (omega (arith, length-traceOf body, few-records body accepted)) λ k l.
+      let inside : k < records body = omega (arith, length-traceOf body) in
+      subst Limited (sym (instruction-traceOf body k inside)) (within-limited (fieldsAt body k) (fields-within body accepted b k inside))
+
+  pub settled-small : (to : Flag) → bound (settle to (traceOf body)) ≤ maxTime
+  settled-small to = omega (arith, bound-settle to (traceOf body), small)
+
+module _ (body : List ℕ) where
+  pub length-settled : (to : Flag) → length (settle to (traceOf body)) ≡ records body
+  length-settled to = length-settle to (traceOf body) ∙ length-traceOf body
+
+  module _ (k : ℕ) (inside : k < records body) {read : Read} (e : read ≡ readAnswer body k) where
+    pub read-fields : read .fields ≡ fieldsAt body k
+    unfolding readAnswer
+    read-fields = ap (λ (r : Read). r .fields) e ∙ rw (lt-ltb _ _ inside)
+
+    pub read-instruction : instructionOf (read .fields) ≡ instruction (traceOf body) k
+    read-instruction = ap instructionOf read-fields ∙ sym (instruction-traceOf body k inside)
+
+    pub read-settled : (to : Flag) {i : Instruction} → i ≡ settleInstruction to (instructionOf (read .fields)) → i ≡ instruction (settle to (traceOf body)) k
+    read-settled to p = p ∙ ap (settleInstruction to) read-instruction ∙ sym (instruction-settle to (traceOf body) k)

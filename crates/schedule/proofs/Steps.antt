@@ -1,0 +1,151 @@
+-- What the calls of each function that the window takes give together, over plain variables: one congruence for each.
+use Prim.Native.Nat.{ℕ, _+_, _-_, max}
+use mathlib.Core.Bool.{Bool, cond, _&&_, _||_}
+use mathlib.Core.Path.{_≡_, _∙_}
+use lib.Dec.{ltb, eqb}
+use Rattle.machine.specs.Instruction.{Instruction}
+use Rattle.machine.specs.Rules.{IF, EX, MEM, isLoad, isStore, isBranch, hits, misses, entry, reads, missesData}
+use Rattle.machine.specs.Time.{settleInstruction}
+use Rattle.machine.proofs.Window as Theory
+use Rattle.machine.proofs.Window.{enterIF, enterID, enterEX, enterMEM, enterLast, lastCount, enterPost}
+use Rattle.record.specs.declared.layout.Fields.{Fields}
+use Rattle.record.specs.Rules.{flagOf, instructionOf}
+use Rattle.schedule.specs.Code.{windowOf, timesOf}
+use Rattle.schedule.specs.declared.levels.Window.{Window}
+use Rattle.schedule.specs.declared.levels.Times.{Times}
+use Rattle.schedule.proofs.Numbers.{miss-number, settled-number, and-is, or-is, cond-and}
+
+-- the record with settled flags
+pub settled-fields
+    : (f : Fields) (to : ℕ) {fetch access : ℕ} →
+    fetch ≡ cond (ltb 1 (f .fetch)) to (f .fetch) →
+    access ≡ cond (ltb 1 (f .access)) to (f .access) →
+    instructionOf
+    (record {
+      kind = f .kind;
+      fetch = fetch;
+      access = access;
+      source1 = f .source1;
+      source2 = f .source2;
+      target = f .target;
+      execution = f .execution;
+      «fetch_latency» = f .«fetch_latency»;
+      «data_latency» = f .«data_latency»;
+    })
+    ≡ settleInstruction (flagOf to) (instructionOf f)
+unfolding instructionOf settleInstruction
+settled-fields f to p q = rw (p, q, settled-number (f .fetch) to, settled-number (f .access) to)
+
+module _ (f : Fields) where
+  abbrev i : Instruction
+  i = instructionOf f
+
+  pub misses-data-is : {load store : Bool} → load ≡ isLoad (i .kind) → store ≡ isStore (i .kind) → ((load || store) && eqb (f .access) 1) ≡ missesData i
+  unfolding instructionOf missesData
+  misses-data-is {load} {store} p q = rw (miss-number (f .access), and-is (load || store) (misses (flagOf (f .access))), or-is load store, p, q)
+
+  pub IF-count : {r : ℕ} → r ≡ cond (eqb (f .fetch) 1) (f .«fetch_latency») 0 → r ≡ entry i IF
+  unfolding instructionOf entry
+  IF-count p = p ∙ rw (miss-number (f .fetch))
+
+  pub MEM-count : {load : Bool} {r : ℕ} → load ≡ isLoad (i .kind) → r ≡ cond (load && eqb (f .access) 1) (f .«data_latency») 0 → r ≡ entry i MEM
+  unfolding instructionOf entry
+  MEM-count {load} p q = q ∙ rw (miss-number (f .access), and-is load (misses (flagOf (f .access))), p)
+
+  pub last-count
+      : {store : Bool} {late r : ℕ} →
+      store ≡ isStore (i .kind) →
+      late ≡ f .«data_latency» - 1 →
+      r ≡ cond (store && eqb (f .access) 1) late 0 →
+      r ≡ lastCount i
+  unfolding instructionOf entry lastCount
+  last-count {store} {late} p q s = s ∙ rw (miss-number (f .access), cond-and store (misses (flagOf (f .access))) late, p, q)
+
+  module _ (w : Window) where
+    pub IF-step
+        : {free waited rest r access : ℕ} {hit : Bool} →
+        free ≡ max 1 (w .ID) →
+        hit ≡ hits (i .fetch) →
+        access ≡ max (w .«load_done») (w .«store_done») →
+        waited ≡ cond hit 0 access →
+        rest ≡ max (w .«branch_done») waited →
+        r ≡ max free rest →
+        r ≡ enterIF (windowOf w) i
+    unfolding enterIF
+    IF-step a b c d e g = g ∙ rw (a, e, d, c, b)
+
+    pub ID-step : (from : ℕ) {count r : ℕ} → count ≡ entry i IF → r ≡ max (from + count + 1) (w .EX) → r ≡ enterID (windowOf w) i from
+    unfolding enterID
+    ID-step from a b = b ∙ rw a
+
+    pub EX-step
+        : (from : ℕ) {own load r : ℕ} {needed : Bool} →
+        needed ≡ reads i (w .«load_target») →
+        load ≡ cond needed (w .«load_done») 0 →
+        own ≡ max (from + 1) (w .MEM) →
+        r ≡ max own load →
+        r ≡ enterEX (windowOf w) i from
+    unfolding enterEX
+    EX-step from a b c d = d ∙ rw (c, b, a)
+
+    pub MEM-step
+        : (from : ℕ) {own store r : ℕ} {missed : Bool} →
+        missed ≡ missesData i →
+        store ≡ cond missed (w .«store_done») 0 →
+        own ≡ max (from + f .execution + 1) (w .last) →
+        r ≡ max own store →
+        r ≡ enterMEM (windowOf w) i from
+    unfolding enterMEM entry instructionOf
+    MEM-step from a b c d = d ∙ rw (c, b, a)
+
+    pub last-step
+        : (from : ℕ) {count store r : ℕ} {stores : Bool} →
+        count ≡ entry i MEM →
+        stores ≡ isStore (i .kind) →
+        store ≡ cond stores (w .«store_done») 0 →
+        r ≡ max (from + count + 1) store →
+        r ≡ enterLast (windowOf w) i from
+    unfolding enterLast
+    last-step from a b c d = d ∙ rw (a, c, b)
+
+    -- the window slides
+    pub slid
+        : (e : Times) {branchDone loadDone storeDone loadTarget finish count : ℕ} {load branch store : Bool} →
+        load ≡ isLoad (i .kind) →
+        branch ≡ isBranch (i .kind) →
+        branchDone ≡ cond branch (e .EX + f .execution + 1) (w .«branch_done») →
+        count ≡ entry i MEM →
+        loadDone ≡ cond load (e .MEM + count + 1) (w .«load_done») →
+        store ≡ isStore (i .kind) →
+        storeDone ≡ cond store (e .post) (w .«store_done») →
+        loadTarget ≡ cond load (f .target) 0 →
+        finish ≡ max (w .finish) (e .post) →
+        _≡_
+        {A = Theory.Window}
+        (record {
+          ID = e .ID;
+          EX = e .EX;
+          MEM = e .MEM;
+          last = e .last;
+          branchDone = branchDone;
+          loadDone = loadDone;
+          storeDone = storeDone;
+          loadTarget = loadTarget;
+          finish = finish;
+        })
+        (Theory.slide (windowOf w) i (timesOf e))
+    unfolding Theory.slide entry instructionOf
+    slid e load branch branchDone count loadDone store storeDone loadTarget finish =
+        rw (branchDone, loadDone, storeDone, loadTarget, finish, count, load, branch, store)
+
+-- six equal times
+pub six-times
+    : {e : Theory.Times} {IF ID EX MEM last post : ℕ} →
+    IF ≡ e .IF →
+    ID ≡ e .ID →
+    EX ≡ e .EX →
+    MEM ≡ e .MEM →
+    last ≡ e .last →
+    post ≡ e .post →
+    _≡_ {A = Theory.Times} (record { IF = IF; ID = ID; EX = EX; MEM = MEM; last = last; post = post }) e
+six-times a b c d e f = λ k. record { IF = a k; ID = b k; EX = c k; MEM = d k; last = e k; post = f k }

@@ -1,0 +1,39 @@
+-- What the crate's structs stand for in the theory of the schedule, and the limit that keeps sums of 32 bits from wrapping.
+use Prim.Native.Nat.{ℕ, _+_, _^_, _<_}
+use Rattle.machine.specs.Instruction.{Instruction}
+use Rattle.machine.specs.Rules as Rules
+use Rattle.machine.proofs.Stages.{level}
+use Rattle.machine.proofs.Window as Theory
+use Rattle.schedule.specs.declared.levels.Window.{Window}
+use Rattle.schedule.specs.declared.levels.Times.{Times}
+use Rattle.schedule.specs.declared.places.Place.{Place}
+
+abbrev pub windowOf : Window → Theory.Window
+windowOf w =
+    record {
+      ID = w .ID;
+      EX = w .EX;
+      MEM = w .MEM;
+      last = w .last;
+      branchDone = w .«branch_done»;
+      loadDone = w .«load_done»;
+      storeDone = w .«store_done»;
+      loadTarget = w .«load_target»;
+      finish = w .finish;
+    }
+
+abbrev pub timesOf : Times → Theory.Times
+timesOf e = record { IF = e .IF; ID = e .ID; EX = e .EX; MEM = e .MEM; last = e .last; post = e .post }
+
+-- a place with its stage as a number, pre 0 to post 7
+abbrev pub numbered : Rules.Place → Place
+numbered p = record { level = level (p .stage); count = p .count }
+
+-- "so at most 537,931,776": no time of an accepted trace is later
+abbrev pub maxTime : ℕ
+maxTime = 537931776
+
+-- the sums that the window after an instruction takes from its times fit
+pub record Room (i : Instruction) (e : Theory.Times) : Type 0 where
+  pub EX : e .EX + Rules.entry i Rules.EX + 1 < 2 ^ 32
+  pub MEM : e .MEM + Rules.entry i Rules.MEM + 1 < 2 ^ 32

@@ -1,0 +1,166 @@
+// The times at which an instruction enters each stage, from what the window remembers of those
+// before it, and the window after it. Times are numbers of cycles from the start; 0 stands for none.
+ghost use mathlib.Core.Path.{_≡_};
+ghost use Prim.Native.Nat.{_+_, _<_, _^_};
+ghost use Rattle.machine.specs.Rules.{IF, EX, MEM, entry};
+ghost use Rattle.machine.proofs.Window.{
+  noWindow,
+  enterIF,
+  enterID,
+  enterEX,
+  enterMEM,
+  enterLast,
+  lastCount,
+  enterPost,
+  timesFrom,
+  slide,
+};
+ghost use Rattle.machine.proofs.WindowBounds.{TimesWithin};
+ghost use Rattle.record.specs.Rules.{instructionOf};
+ghost use Rattle.schedule.specs.Code.{windowOf, timesOf, maxTime, Room};
+use crate::choice::choose;
+use crate::choice::later;
+use crate::parts::count_in_if;
+use crate::parts::count_in_last;
+use crate::parts::count_in_mem;
+use crate::parts::fetch_hits;
+use crate::parts::is_branch;
+use crate::parts::is_load;
+use crate::parts::is_store;
+use crate::parts::misses_data;
+use crate::parts::reads;
+use record::Fields;
+
+// What a pass remembers of the instructions so far.
+#[repr(C)]
+pub struct Window {
+    // When the one directly before entered ID, EX, MEM and its last stage.
+    pub ID: u32,
+    pub EX: u32,
+    pub MEM: u32,
+    pub last: u32,
+    // One cycle after the last branch, load and store stood with count 0 in EX, MEM and ST.
+    pub branch_done: u32,
+    pub load_done: u32,
+    pub store_done: u32,
+    // The target of a load directly before.
+    pub load_target: u32,
+    // When all so far have left.
+    pub finish: u32,
+}
+
+// When an instruction enters each stage, `last` being ST or WB.
+#[repr(C)]
+pub struct Times {
+    pub IF: u32,
+    pub ID: u32,
+    pub EX: u32,
+    pub MEM: u32,
+    pub last: u32,
+    pub post: u32,
+}
+
+pub fn no_window() -> Window
+    ensures { λ r. ⌜ windowOf r ≡ noWindow ⌝ }
+{
+    Window {
+        ID: 0,
+        EX: 0,
+        MEM: 0,
+        last: 0,
+        branch_done: 0,
+        load_done: 0,
+        store_done: 0,
+        load_target: 0,
+        finish: 0,
+    }
+}
+
+// One function for each stage: the own way there, the stage becoming free, and what is waited for
+// before it; `from` is when it entered the stage before.
+pub fn enter_if(w: Window, f: Fields) -> u32
+    ensures { λ r. ⌜ r ≡ enterIF (windowOf w) (instructionOf f) ⌝ }
+{
+    let free = later(1, w.ID);
+    let data = choose(fetch_hits(f), 0, later(w.load_done, w.store_done));
+    later(free, later(w.branch_done, data))
+}
+
+pub fn enter_id(w: Window, f: Fields, from: u32) -> u32
+    requires { ⌜ from + entry (instructionOf f) IF + 1 < 2 ^ 32 ⌝ }
+    ensures { λ r. ⌜ r ≡ enterID (windowOf w) (instructionOf f) from ⌝ }
+{
+    later(from + count_in_if(f) + 1, w.EX)
+}
+
+pub fn enter_ex(w: Window, f: Fields, from: u32) -> u32
+    requires { ⌜ from + 1 < 2 ^ 32 ⌝ }
+    ensures { λ r. ⌜ r ≡ enterEX (windowOf w) (instructionOf f) from ⌝ }
+{
+    let load = choose(reads(f, w.load_target), w.load_done, 0);
+    later(later(from + 1, w.MEM), load)
+}
+
+pub fn enter_mem(w: Window, f: Fields, from: u32) -> u32
+    requires { ⌜ from + entry (instructionOf f) EX + 1 < 2 ^ 32 ⌝ }
+    ensures { λ r. ⌜ r ≡ enterMEM (windowOf w) (instructionOf f) from ⌝ }
+{
+    let store = choose(misses_data(f), w.store_done, 0);
+    later(later(from + f.execution + 1, w.last), store)
+}
+
+pub fn enter_last(w: Window, f: Fields, from: u32) -> u32
+    requires { ⌜ from + entry (instructionOf f) MEM + 1 < 2 ^ 32 ⌝ }
+    ensures { λ r. ⌜ r ≡ enterLast (windowOf w) (instructionOf f) from ⌝ }
+{
+    later(
+        from + count_in_mem(f) + 1,
+        choose(is_store(f), w.store_done, 0),
+    )
+}
+
+pub fn enter_post(f: Fields, from: u32) -> u32
+    requires { ⌜ from + lastCount (instructionOf f) + 1 < 2 ^ 32 ⌝ }
+    ensures { λ r. ⌜ r ≡ enterPost (instructionOf f) from ⌝ }
+{
+    from + count_in_last(f) + 1
+}
+
+// All six, each from the one before.
+pub fn times_from(w: Window, f: Fields) -> Times
+    requires { ⌜ TimesWithin maxTime (timesFrom (windowOf w) (instructionOf f)) ⌝ }
+    ensures { λ r. ⌜ timesOf r ≡ timesFrom (windowOf w) (instructionOf f) ⌝ }
+{
+    let at_if = enter_if(w, f);
+    let at_id = enter_id(w, f, at_if);
+    let at_ex = enter_ex(w, f, at_id);
+    let at_mem = enter_mem(w, f, at_ex);
+    let at_last = enter_last(w, f, at_mem);
+    Times {
+        IF: at_if,
+        ID: at_id,
+        EX: at_ex,
+        MEM: at_mem,
+        last: at_last,
+        post: enter_post(f, at_last),
+    }
+}
+
+// The window after an instruction that has these times.
+pub fn slide(w: Window, f: Fields, e: Times) -> Window
+    requires { ⌜ Room (instructionOf f) (timesOf e) ⌝ }
+    ensures { λ r. ⌜ windowOf r ≡ slide (windowOf w) (instructionOf f) (timesOf e) ⌝ }
+{
+    let load = is_load(f);
+    Window {
+        ID: e.ID,
+        EX: e.EX,
+        MEM: e.MEM,
+        last: e.last,
+        branch_done: choose(is_branch(f), e.EX + f.execution + 1, w.branch_done),
+        load_done: choose(load, e.MEM + count_in_mem(f) + 1, w.load_done),
+        store_done: choose(is_store(f), e.post, w.store_done),
+        load_target: choose(load, f.target, 0),
+        finish: later(w.finish, e.post),
+    }
+}

@@ -1,0 +1,82 @@
+// Where an instruction stands after a number of cycles, from its times.
+ghost use mathlib.Core.Path.{_≡_};
+ghost use Rattle.machine.proofs.Window.{placeAt};
+ghost use Rattle.record.specs.Rules.{instructionOf};
+ghost use Rattle.schedule.specs.Code.{timesOf, numbered};
+use crate::choice::choose;
+use crate::choice::less;
+use crate::levels::Times;
+use crate::parts::count_in_if;
+use crate::parts::count_in_last;
+use crate::parts::count_in_mem;
+use crate::parts::is_store;
+use record::Fields;
+
+// The stages as numbers.
+pub const PRE: u32 = 0;
+
+pub const IF: u32 = 1;
+
+pub const ID: u32 = 2;
+
+pub const EX: u32 = 3;
+
+pub const MEM: u32 = 4;
+
+pub const ST: u32 = 5;
+
+pub const WB: u32 = 6;
+
+pub const POST: u32 = 7;
+
+// A stage and a remaining count.
+#[repr(C)]
+pub struct Place {
+    pub level: u32,
+    pub count: u32,
+}
+
+pub fn place_at(f: Fields, e: Times, t: u32) -> Place
+    ensures { λ r. ⌜ r ≡ numbered (placeAt (instructionOf f) (timesOf e) t) ⌝ }
+{
+    if t < e.IF {
+        return Place {
+            level: PRE,
+            count: 0,
+        };
+    }
+    if t < e.ID {
+        return Place {
+            level: IF,
+            count: less(count_in_if(f), t - e.IF),
+        };
+    }
+    if t < e.EX {
+        return Place {
+            level: ID,
+            count: 0,
+        };
+    }
+    if t < e.MEM {
+        return Place {
+            level: EX,
+            count: less(f.execution, t - e.EX),
+        };
+    }
+    if t < e.last {
+        return Place {
+            level: MEM,
+            count: less(count_in_mem(f), t - e.MEM),
+        };
+    }
+    if t < e.post {
+        return Place {
+            level: choose(is_store(f), ST, WB),
+            count: less(count_in_last(f), t - e.last),
+        };
+    }
+    Place {
+        level: POST,
+        count: 0,
+    }
+}

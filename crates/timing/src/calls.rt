@@ -1,0 +1,113 @@
+// The public calls. A refusal gives its number, and zeros or no for the rest.
+ghost use mathlib.Core.Path.{_≡_};
+ghost use Rattle.timing.specs.Answers.{
+  finishAnswer,
+  bestWorstAnswer,
+  marginAnswer,
+  alikeAnswer,
+};
+use crate::pass::HIT;
+use crate::pass::MISS;
+use crate::pass::finish_settled;
+use record::body_refusal;
+use record::settled_refusal;
+
+#[repr(C)]
+pub struct Finished {
+    pub refusal: u32,
+    pub time: u32,
+}
+
+#[repr(C)]
+pub struct BestWorst {
+    pub refusal: u32,
+    pub best: u32,
+    pub worst: u32,
+}
+
+// Below 0 the deadline is missed; 0 is met exactly.
+#[repr(C)]
+pub struct DeadlineMargin {
+    pub refusal: u32,
+    pub margin: i64,
+}
+
+#[repr(C)]
+pub struct Likeness {
+    pub refusal: u32,
+    pub alike: bool,
+}
+
+// The finishing time of a body without unknown flags.
+pub fn finish(body: &[u8]) -> Finished
+    ensures { λ r. ⌜ r ≡ finishAnswer (now (body .entry)) ⌝ }
+{
+    let refusal = settled_refusal(body);
+    if refusal != 0 {
+        return Finished { refusal, time: 0 };
+    }
+    Finished {
+        refusal: 0,
+        time: finish_settled(body, HIT),
+    }
+}
+
+// The least and the greatest finishing time of all settlings.
+pub fn best_worst(body: &[u8]) -> BestWorst
+    ensures { λ r. ⌜ r ≡ bestWorstAnswer (now (body .entry)) ⌝ }
+{
+    let refusal = body_refusal(body);
+    if refusal != 0 {
+        return BestWorst {
+            refusal,
+            best: 0,
+            worst: 0,
+        };
+    }
+    BestWorst {
+        refusal: 0,
+        best: finish_settled(body, HIT),
+        worst: finish_settled(body, MISS),
+    }
+}
+
+// The deadline minus the worst time.
+pub fn margin(body: &[u8], deadline: u32) -> DeadlineMargin
+    ensures { λ r. ⌜ r ≡ marginAnswer (now (body .entry)) deadline ⌝ }
+{
+    let refusal = body_refusal(body);
+    if refusal != 0 {
+        return DeadlineMargin { refusal, margin: 0 };
+    }
+    let worst = finish_settled(body, MISS);
+    DeadlineMargin {
+        refusal: 0,
+        margin: deadline as i64 - worst as i64,
+    }
+}
+
+// Whether two bodies without unknown flags have equal finishing times.
+pub fn alike(first: &[u8], second: &[u8]) -> Likeness
+    ensures { λ r. ⌜ r ≡ alikeAnswer (now (first .entry)) (now (second .entry)) ⌝ }
+{
+    let of_first = settled_refusal(first);
+    if of_first != 0 {
+        return Likeness {
+            refusal: of_first,
+            alike: false,
+        };
+    }
+    let of_second = settled_refusal(second);
+    if of_second != 0 {
+        return Likeness {
+            refusal: of_second,
+            alike: false,
+        };
+    }
+    let time1 = finish_settled(first, HIT);
+    let time2 = finish_settled(second, HIT);
+    Likeness {
+        refusal: 0,
+        alike: time1 == time2,
+    }
+}
