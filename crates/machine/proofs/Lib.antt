@@ -24,7 +24,7 @@ pub mod Finish
 pub mod Monotone
 pub mod Slower
 pub mod Longer
-pub mod Settle
+pub mod Settled
 pub mod Settlings
 pub mod RunStates
 pub mod Window

@@ -7,4 +7,5 @@ pub mod Refusals
 pub mod RoundTrip
 pub mod Scan
 pub mod SettledBody
+pub mod SettledRecord
 pub mod Within

@@ -1,171 +1,77 @@
--- An accepted body with every unknown flag made a hit, or a miss, is a body of its own that no call refuses, and stands for the settled trace:
--- settling alters the two flags of a record only, and leaves a data access that the rules want to be 0 at 0.
-use Prim.Native.Nat.{ℕ, zero, suc, _+_, _*_, _≤_, _<_}
-use mathlib.Core.Bool.{Bool, true, false, not, _&&_}
+-- Every settling of an accepted body's trace is the trace of a body that no call refuses, since each of its records keeps the rules; one is the body
+-- with every unknown flag made a hit, or a miss. A body without unknown flags is its own only settling.
+use Prim.Native.Nat.{ℕ, zero, suc, _≤_, _<_}
+use mathlib.Core.Bool.{false}
 use mathlib.Core.List.{List}
-use mathlib.Core.Path.{_≡_, refl, ap, _∙_}
+use mathlib.Core.Path.{_≡_, ap, subst, _∙_}
 use native.Mathlib.Omega.{arith}
-use borrow.Author.Tests.{eqb-true, eq-eqb, ne-eqb, le-ltb, not-false}
-use lib.Dec.{eqb}
 use lib.ListN.{length}
-use Rattle.machine.specs.Instruction.{Flag, hit, miss, unknown, Instruction, Trace, instruction}
-use Rattle.machine.specs.Time.{Settled, Settling, settleInstruction, settle}
-use Rattle.machine.proofs.Settle.{Known, settled-known, length-settle, instruction-settle, settle-known}
+use Rattle.machine.specs.Instruction.{Flag, unknown, Instruction, Trace, instruction}
+use Rattle.machine.specs.Time.{Settled, SettledInstruction, Settling, settle}
+use Rattle.machine.proofs.Settled.{Known, settled-known, settling-length, settling-at, only-settling}
 use Rattle.machine.proofs.Settlings.{settles}
-use Rattle.record.specs.declared.layout.Fields.{Fields}
-use Rattle.record.specs.Layout.{fieldsFrom}
-use Rattle.record.specs.Rules.{noAccess, breaksRules, hasUnknown, flagOf, flagNumber, instructionOf}
-use Rattle.record.specs.Body.{Bytes, records, fieldsAt, breaksAt, unknownAt, traceOf, recordOf, bodyOf, settledBody, bodyRefusal, settledRefusal}
-use Rattle.record.specs.Claims.{Lawful}
+use Rattle.record.specs.Rules.{hasUnknown, flagOf, instructionOf}
+use Rattle.record.specs.Body.{Bytes, records, fieldsAt, breaksAt, unknownAt, traceOf, bodyOf, settledBody, bodyRefusal, settledRefusal}
+use Rattle.record.specs.Claims.{Lawful, SettlingsAreBodies}
 use Rattle.record.proofs.Accepted.{settled-of, few-records, breaks-none, fields-within, settled-accepted, flags-known}
 use Rattle.record.proofs.Encoding.{length-traceOf, instruction-traceOf, records-bodyOf}
-use Rattle.record.proofs.Fits.{encoding-is-bytes}
-use Rattle.record.proofs.Numbers.{number-kindOf, fetch-of-flags, access-of-flags, half-of-bytes}
 use Rattle.record.proofs.RoundTrip.{fields-bodyOf, accepted-is-encoded, encoding-is-decoded}
-use Rattle.record.proofs.Within.{Within, rules}
+use Rattle.record.proofs.SettledRecord.{settled-lawful, known-record}
 
--- A flag's number once it is known, and an instruction's record then.
-number-known : (flag : Flag) → ¬ (flag ≡ unknown) → flagNumber flag ≤ 1
-number-known hit k = omega arith
-number-known miss k = omega arith
-number-known unknown k = absurd (k refl)
+module _ (body : List ℕ) (b : Bytes body) (accepted : bodyRefusal body ≡ 0) (settling : Trace) (h : Settling (traceOf body) settling) where
+  same-length : length settling ≡ records body
+  same-length = settling-length h ∙ length-traceOf body
 
-known-record : (i : Instruction) → Known i → unknownAt (recordOf i) 0 ≡ false
-unfolding unknownAt hasUnknown fieldsFrom recordOf
-known-record i k =
-    let fetch = number-known (i .fetch) (k .fetch) in
-    let access = number-known (i .access) (k .access) in
-    rw (
-      fetch-of-flags (i .fetch) (i .access),
-      access-of-flags (i .fetch) (i .access),
-      ne-eqb (flagNumber (i .fetch)) 2 (omega arith),
-      ne-eqb (flagNumber (i .access)) 2 (omega arith),
-    )
+  settled-at : (k : ℕ) → k < records body → SettledInstruction (instructionOf (fieldsAt body k)) (instruction settling k)
+  settled-at k l =
+      subst
+      (λ (i : Instruction). SettledInstruction i (instruction settling k))
+      (instruction-traceOf body k l)
+      (settling-at h k (omega (arith, length-traceOf body)))
 
-module _ (trace : Trace) where
-  -- the encoding of a lawful trace without unknown flags is refused by no call
-  encoding-settled :
-      length trace ≤ 4096 →
-      ((k : ℕ) → k < length trace → Lawful (instruction trace k)) →
-      ((k : ℕ) → k < length trace → Known (instruction trace k)) →
-      settledRefusal (bodyOf trace) ≡ 0
-  unfolding unknownAt
-  encoding-settled few lawful known =
-      settled-of (bodyOf trace) (encoding-is-decoded trace few lawful .2) λ k l.
-      let inside : k < length trace = omega (arith, records-bodyOf trace) in
-      ap hasUnknown (fields-bodyOf trace k inside) ∙ known-record (instruction trace k) (known k inside)
+  few : length settling ≤ 4096
+  few = omega (arith, same-length, few-records body accepted)
 
--- a number that is 0 where a test passes, and another that is 0 where the first is
-still-zero : (test : Bool) (n m : ℕ) → (n ≡ 0 → m ≡ 0) → (test && not (eqb n 0)) ≡ false → (test && not (eqb m 0)) ≡ false
-still-zero true n m h e = ap not (eq-eqb m 0 (h (eqb-true n 0 (not-false (eqb n 0) e))))
-still-zero false n m h e = refl
-
-module _ (to : Flag) (u : Settled unknown to) (f : Fields) where
-  abbrev settled : Instruction
-  settled = settleInstruction to (instructionOf f)
-
-  abbrev fetch : ℕ
-  fetch = flagNumber (settled .fetch)
-
-  abbrev access : ℕ
-  access = flagNumber (settled .access)
-
-  settled-fields : Fields
-  settled-fields =
-      record {
-        kind = f .kind;
-        fetch = fetch;
-        access = access;
-        source1 = f .source1;
-        source2 = f .source2;
-        target = f .target;
-        execution = f .execution;
-        «fetch_latency» = f .«fetch_latency»;
-        «data_latency» = f .«data_latency»;
-      }
-
-  fields-settled : Within f → fieldsFrom (recordOf settled) 0 ≡ settled-fields
-  unfolding fieldsFrom recordOf settleInstruction instructionOf settled-fields
-  fields-settled w =
-      rw (
-        fetch-of-flags (settled .fetch) (settled .access),
-        access-of-flags (settled .fetch) (settled .access),
-        number-kindOf _ (w .kind),
-        half-of-bytes (f .«fetch_latency»),
-        half-of-bytes (f .«data_latency»),
-      )
-
-  hit-stays-hit : f .access ≡ 0 → access ≡ 0
-  unfolding settleInstruction instructionOf flagOf
-  hit-stays-hit e = rw e
-
-  keeps-rules : (flags : ℕ) → breaksRules f flags ≡ false → breaksRules settled-fields (fetch + 4 * access) ≡ false
-  unfolding breaksRules settled-fields
-  keeps-rules flags lawful =
-      let known = settled-known to u (instructionOf f) in
-      let small = number-known (settled .fetch) (known .fetch) in
-      let low = number-known (settled .access) (known .access) in
-      let r = rules f flags lawful in
-      rw (
-        r .0,
-        ne-eqb fetch 3 (omega arith),
-        ne-eqb access 3 (omega arith),
-        le-ltb 15 (fetch + 4 * access) (omega arith),
-        still-zero (noAccess f) (f .access) access hit-stays-hit (r .2),
-        r .3,
-        r .4,
-        r .5,
-        r .6,
-      )
-
-  settled-lawful : (flags : ℕ) → breaksRules f flags ≡ false → Within f → Lawful settled
-  unfolding breaksAt recordOf settleInstruction instructionOf
-  settled-lawful flags lawful w =
-      record {
-        executionLatency = omega (arith, w .execution);
-        fetchLatency = omega (arith, w .fetchLatency .1);
-        dataLatency = omega (arith, w .dataLatency);
-        rules = ap (λ (g : Fields). breaksRules g (fetch + 4 * access)) (fields-settled w) ∙ keeps-rules flags lawful;
-      }
-
-module _ (to : Flag) (u : Settled unknown to) (body : List ℕ) (b : Bytes body) (accepted : bodyRefusal body ≡ 0) where
-  abbrev trace : Trace
-  trace = settle to (traceOf body)
-
-  inside : (k : ℕ) → k < length trace → k < records body
-  inside k l = omega (arith, length-settle to (traceOf body), length-traceOf body)
-
-  few : length trace ≤ 4096
-  few = omega (arith, length-settle to (traceOf body), length-traceOf body, few-records body accepted)
-
-  settled-at : (k : ℕ) → k < length trace → instruction trace k ≡ settleInstruction to (instructionOf (fieldsAt body k))
-  settled-at k l = instruction-settle to (traceOf body) k ∙ ap (settleInstruction to) (instruction-traceOf body k (inside k l))
-
-  lawful : (k : ℕ) → k < length trace → Lawful (instruction trace k)
+  lawful : (k : ℕ) → k < length settling → Lawful (instruction settling k)
   unfolding breaksAt
   lawful k l =
-      rw (settled-at k l)
-      (settled-lawful to u (fieldsAt body k) _ (breaks-none body accepted k (inside k l)) (fields-within body accepted b k (inside k l)))
+      let inside : k < records body = omega (arith, same-length) in
+      settled-lawful (fieldsAt body k) _ (settled-at k inside) _ (breaks-none body accepted k inside) (fields-within body accepted b k inside)
 
-  known : (k : ℕ) → k < length trace → Known (instruction trace k)
-  known k l = rw (settled-at k l) (settled-known to u (instructionOf (fieldsAt body k)))
+  known-at : (k : ℕ) → k < records (bodyOf settling) → unknownAt (bodyOf settling) k ≡ false
+  unfolding unknownAt
+  known-at k l =
+      let inside : k < length settling = omega (arith, records-bodyOf settling) in
+      ap hasUnknown (fields-bodyOf settling k inside)
+      ∙ known-record (instruction settling k) (settled-known (settled-at k (omega (arith, same-length))))
+
+  settling-is-body : Bytes (bodyOf settling) × (settledRefusal (bodyOf settling) ≡ 0) × (traceOf (bodyOf settling) ≡ settling)
+  settling-is-body =
+      let decoded = encoding-is-decoded settling few lawful in
+      (decoded .1, settled-of (bodyOf settling) (decoded .2) known-at, decoded .0)
+
+pub settlings-are-bodies : SettlingsAreBodies
+settlings-are-bodies = settling-is-body
+
+-- A flag that is a hit or a miss, and the settling that it makes of a body.
+module _ (to : Flag) (u : Settled unknown to) (body : List ℕ) (b : Bytes body) (accepted : bodyRefusal body ≡ 0) where
+  as-body : Bytes (settledBody to body) × (settledRefusal (settledBody to body) ≡ 0) × (traceOf (settledBody to body) ≡ settle to (traceOf body))
+  unfolding settledBody
+  as-body = settlings-are-bodies body b accepted (settle to (traceOf body)) (settles to u (traceOf body))
 
   pub settled-body-bytes : Bytes (settledBody to body)
-  unfolding settledBody
-  settled-body-bytes = encoding-is-bytes trace lawful
+  settled-body-bytes = as-body .0
 
-  pub settled-body-accepted : settledRefusal (settledBody to body) ≡ 0
-  unfolding settledBody
-  settled-body-accepted = encoding-settled trace few lawful known
+  pub settled-body-passes : settledRefusal (settledBody to body) ≡ 0
+  settled-body-passes = as-body .1
 
   pub settled-body-decoded : traceOf (settledBody to body) ≡ settle to (traceOf body)
-  unfolding settledBody
-  settled-body-decoded = encoding-is-decoded trace few lawful .0
+  settled-body-decoded = as-body .2
 
   pub settled-body-settles : Settling (traceOf body) (traceOf (settledBody to body))
   settled-body-settles = rw settled-body-decoded (settles to u (traceOf body))
 
--- A body that no call refuses has no unknown flag, so settling leaves it as it is.
+-- A body that no call refuses has no unknown flag, so it is its own only settling.
 flag-known : (n : ℕ) → n ≤ 1 → ¬ (flagOf n ≡ unknown)
 unfolding flagOf
 flag-known zero l e = let z : _≡_ {A = ℕ} 0 1 = cc in omega arith
@@ -181,9 +87,9 @@ module _ (body : List ℕ) (b : Bytes body) (settled : settledRefusal body ≡ 0
       rw (instruction-traceOf body k inside)
       (record { fetch = flag-known _ (flags .0); access = flag-known _ (flags .1) })
 
-  pub settled-trace : (to : Flag) → settle to (traceOf body) ≡ traceOf body
-  settled-trace to = settle-known to (traceOf body) trace-known
+  pub settled-trace : (to : Flag) → Settled unknown to → settle to (traceOf body) ≡ traceOf body
+  settled-trace to u = only-settling (settles to u (traceOf body)) trace-known
 
-  pub settled-body : (to : Flag) → settledBody to body ≡ body
+  pub settled-body : (to : Flag) → Settled unknown to → settledBody to body ≡ body
   unfolding settledBody
-  settled-body to = ap bodyOf (settled-trace to) ∙ accepted-is-encoded body b (settled-accepted body settled)
+  settled-body to u = ap bodyOf (settled-trace to u) ∙ accepted-is-encoded body b (settled-accepted body settled)

@@ -5,7 +5,8 @@ use mathlib.Core.Path.{_≡_}
 use mathlib.Core.List.{List}
 use lib.ListN.{length}
 use Rattle.machine.specs.Instruction.{Instruction, Trace, instruction}
-use Rattle.record.specs.Body.{Bytes, breaksAt, traceOf, recordOf, bodyOf, bodyRefusal}
+use Rattle.machine.specs.Time.{Settling}
+use Rattle.record.specs.Body.{Bytes, breaksAt, traceOf, recordOf, bodyOf, bodyRefusal, settledRefusal}
 
 -- An accepted body is the encoding of what it decodes to.
 abbrev pub AcceptedIsEncoded : Type 0
@@ -25,3 +26,13 @@ EncodingIsDecoded =
     length trace ≤ 4096 →
     ((k : ℕ) → k < length trace → Lawful (instruction trace k)) →
     (traceOf (bodyOf trace) ≡ trace) × Bytes (bodyOf trace) × (bodyRefusal (bodyOf trace) ≡ 0)
+
+-- Every settling of an accepted body's trace is the trace of a body, which no call refuses.
+abbrev pub SettlingsAreBodies : Type 0
+SettlingsAreBodies =
+    (body : List ℕ) →
+    Bytes body →
+    bodyRefusal body ≡ 0 →
+    (settling : Trace) →
+    Settling (traceOf body) settling →
+    Bytes (bodyOf settling) × (settledRefusal (bodyOf settling) ≡ 0) × (traceOf (bodyOf settling) ≡ settling)
