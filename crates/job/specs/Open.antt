@@ -1,9 +1,9 @@
 -- What Open answers: document 01, "What each call does and when it declines".
-use Prim.Native.Nat.{ℕ, suc, _+_, _*_}
+use Prim.Native.Nat.{ℕ, suc, _+_, _*_, _-_}
 use mathlib.Core.Bool.{Bool, true, false, cond}
 use mathlib.Core.List.{List, []}
 use lib.Dec.{ltb, leb, eqb}
-use lib.ListN.{length}
+use lib.ListN.{length, take, drop}
 use Rattle.record.specs.Refusal.{_then_, _unless_, outOfRange}
 use Rattle.record.specs.Body.{recordRefusal}
 use Rattle.job.specs.Refusal.{tooLong, tooShort, tooManyTraces, cutTable, largeCount, wrongOffset, wrongEnd, firstRefusal}
@@ -51,3 +51,7 @@ locateAnswer file trace =
     cond (eqb (openRefusal file trace) 0)
     (record { refusal = 0; start = startAt file trace; end = startAt file (suc trace) })
     (record { refusal = openRefusal file trace; start = 0; end = 0 })
+
+-- the bytes of a file from start to end, or none where the file ends before
+unfoldable pub partOf : List ℕ → ℕ → ℕ → List ℕ
+partOf file start end = cond (leb end (length file)) (take (end - start) (drop start file)) []

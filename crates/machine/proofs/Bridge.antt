@@ -76,8 +76,8 @@ module _ (trace : Trace) where
     step-at-post i s l e st =
         stay l st (record { level = st .level; entered = let h = st .entered in omega arith; stays = λ k. absurd (omega arith) }) (moves-at 0 l st (omega arith))
 
-    step : (i : ℕ) → i < length trace → cycle trace places i ≡ scheduled b (suc t) i
-    step i l = pick (last (levelAt (enters b i) t) 6 (let h = stands b t i .level in omega arith))
+    pub cycle-scheduled : (i : ℕ) → i < length trace → cycle trace places i ≡ scheduled b (suc t) i
+    cycle-scheduled i l = pick (last (levelAt (enters b i) t) 6 (let h = stands b t i .level in omega arith))
       where
         pick : Last (levelAt (enters b i) t) 6 → cycle trace places i ≡ scheduled b (suc t) i
         pick (before m) = step-before-post i _ l m (stands b t i)
@@ -90,4 +90,4 @@ bridge trace zero i l =
     let o = own (behaviour trace) i 0 in
     let c = behaviour trace .count-in-pre i in
     place-is refl (omega arith) ∙ sym (scheduled-at {s = 0} (record { level = omega arith; entered = omega arith; stays = λ k. omega arith }))
-bridge trace (suc t) i l = step trace t (after trace t) (bridge trace t) i l
+bridge trace (suc t) i l = cycle-scheduled trace t (after trace t) (bridge trace t) i l

@@ -25,7 +25,9 @@ pub mod Finish
 pub mod Monotone
 pub mod Slower
 pub mod Longer
+pub mod Settle
 pub mod Settlings
+pub mod RunStates
 pub mod Window
 pub mod Dominance
 pub mod FetchTime

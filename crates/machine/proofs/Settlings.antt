@@ -3,52 +3,34 @@
 use mathlib.Core.List.{[], _∷_}
 use mathlib.Core.Path.{refl, sym}
 use native.Mathlib.Nat.{le-of-eq}
-use Rattle.machine.specs.Instruction.{Flag, hit, miss, unknown, Instruction, Trace, blank, instruction}
-use Rattle.machine.specs.Time.{Settled, hit-stays, miss-stays, unknown-hits, unknown-misses, Settling, settled-none, settled-more, settle, best, worst}
+use Rattle.machine.specs.Instruction.{Flag, hit, miss, unknown, Trace}
+use Rattle.machine.specs.Time.{Settled, hit-stays, miss-stays, unknown-hits, unknown-misses, Settling, settled-none, settled-more, settleFlag, settle, best, worst}
 use Rattle.machine.specs.Order.{FlagTo, hit-hit, hit-miss, miss-miss, Slower, slower-none, slower-more}
 use Rattle.machine.specs.Claims.{SettlingsEnclosed}
 use Rattle.machine.proofs.Slower.{ordered}
 
--- what settling makes of a flag, read off an instruction
-fetching : Flag → Instruction
-fetching flag =
-    record {
-      kind = blank .kind;
-      fetch = flag;
-      access = blank .access;
-      source1 = 0;
-      source2 = 0;
-      target = 0;
-      executionLatency = 0;
-      fetchLatency = 0;
-      dataLatency = 0;
-    }
-
-settledFlag : Flag → Flag → Flag
-settledFlag to flag = instruction (settle to (fetching flag ∷ [])) 0 .fetch
-
-flag-settled : (to : Flag) → Settled unknown to → (flag : Flag) → Settled flag (settledFlag to flag)
-unfolding settledFlag fetching settle
+flag-settled : (to : Flag) → Settled unknown to → (flag : Flag) → Settled flag (settleFlag to flag)
+unfolding settleFlag
 flag-settled to u hit = hit-stays
 flag-settled to u miss = miss-stays
 flag-settled to u unknown = u
 
-flag-above-hits : {f g : Flag} → Settled f g → FlagTo (settledFlag hit f) g
-unfolding settledFlag fetching settle
+flag-above-hits : {f g : Flag} → Settled f g → FlagTo (settleFlag hit f) g
+unfolding settleFlag
 flag-above-hits hit-stays = hit-hit
 flag-above-hits miss-stays = miss-miss
 flag-above-hits unknown-hits = hit-hit
 flag-above-hits unknown-misses = hit-miss
 
-flag-below-misses : {f g : Flag} → Settled f g → FlagTo g (settledFlag miss f)
-unfolding settledFlag fetching settle
+flag-below-misses : {f g : Flag} → Settled f g → FlagTo g (settleFlag miss f)
+unfolding settleFlag
 flag-below-misses hit-stays = hit-hit
 flag-below-misses miss-stays = miss-miss
 flag-below-misses unknown-hits = hit-miss
 flag-below-misses unknown-misses = miss-miss
 
-settles : (to : Flag) → Settled unknown to → (trace : Trace) → Settling trace (settle to trace)
-unfolding settledFlag fetching settle
+pub settles : (to : Flag) → Settled unknown to → (trace : Trace) → Settling trace (settle to trace)
+unfolding settle
 settles to u [] = settled-none
 settles to u (i ∷ trace) =
     settled-more
@@ -66,7 +48,7 @@ settles to u (i ∷ trace) =
     (settles to u trace)
 
 slower-than-hits : {trace settling : Trace} → Settling trace settling → Slower (settle hit trace) settling
-unfolding settledFlag fetching settle
+unfolding settle
 slower-than-hits settled-none = slower-none
 slower-than-hits (settled-more h rest) =
     slower-more
@@ -84,7 +66,7 @@ slower-than-hits (settled-more h rest) =
     (slower-than-hits rest)
 
 misses-slower : {trace settling : Trace} → Settling trace settling → Slower settling (settle miss trace)
-unfolding settledFlag fetching settle
+unfolding settle
 misses-slower settled-none = slower-none
 misses-slower (settled-more h rest) =
     slower-more

@@ -7,7 +7,6 @@ use native.Mathlib.Omega.{arith}
 use borrow.Author.Tests.{eqb-true, eqb-false, leb-true, eq-eqb, le-leb}
 use lib.Dec.{leb, eqb}
 use lib.ListN.{length}
-use Rattle.record.specs.Refusal.{brokenRecord, wrongLength, unknownFlag}
 use Rattle.record.specs.Layout.{recordSize, flagsAt, byte}
 use Rattle.record.specs.Rules.{hasUnknown}
 use Rattle.record.specs.Body.{Bytes, records, fieldsAt, breaksAt, unknownAt, lengthRefusal, recordRefusal, unknownRefusal, bodyRefusal, settledRefusal}
@@ -29,6 +28,10 @@ module _ (body : List ℕ) where
   accepted-of whole few lawful =
       then-none _ _ (sym (last-passes _ (rw (eq-eqb (length body % recordSize) 0 (omega arith), le-leb (records body) 4096 few))))
       ∙ sym (last-passes _ (none-of _ _ lawful))
+
+  pub settled-of : bodyRefusal body ≡ 0 → ((k : ℕ) → k < records body → unknownAt body k ≡ false) → settledRefusal body ≡ 0
+  unfolding settledRefusal unknownRefusal
+  settled-of accepted known = then-none _ _ accepted ∙ sym (last-passes _ (none-of _ _ known))
 
   module _ (accepted : bodyRefusal body ≡ 0) where
     parts : (lengthRefusal body ≡ 0) × (recordRefusal body ≡ 0)

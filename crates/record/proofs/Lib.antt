@@ -6,4 +6,5 @@ pub mod Numbers
 pub mod Refusals
 pub mod RoundTrip
 pub mod Scan
+pub mod SettledBody
 pub mod Within

@@ -82,7 +82,7 @@ module _ (trace : Trace) (k : ℕ) (l : k < length trace) where
   record-byte : (j : ℕ) → j < recordSize → byte (bodyOf trace) (k * recordSize + j) ≡ byte (recordOf (instruction trace k)) (0 + j)
   record-byte j u = rw (zero-add j) (byte-bodyOf trace k j l u)
 
-  fields-bodyOf : fieldsAt (bodyOf trace) k ≡ fieldsFrom (recordOf (instruction trace k)) 0
+  pub fields-bodyOf : fieldsAt (bodyOf trace) k ≡ fieldsFrom (recordOf (instruction trace k)) 0
   fields-bodyOf = fields-alike _ _ _ _ record-byte
 
   breaks-bodyOf : breaksAt (bodyOf trace) k ≡ breaksAt (recordOf (instruction trace k)) 0

@@ -90,7 +90,7 @@ seven a b c d e g h q =
     (k .0, k .1, l .1, m .1, n .1, o .1, p .1)
 
 module _ (f : Fields) (flags : ℕ) (lawful : breaksRules f flags ≡ false) where
-  rules : (badKind f ≡ false)
+  pub rules : (badKind f ≡ false)
       × (badFlags f flags ≡ false)
       × (strayAccess f ≡ false)
       × (badRegister f ≡ false)

@@ -5,7 +5,8 @@ use mathlib.Core.List.{List, [], _∷_, _++_}
 use lib.Dec.{ltb, leb, eqb}
 use lib.ListN.{length}
 use Rattle.machine.specs.Test.{every, none}
-use Rattle.machine.specs.Instruction.{Instruction, Trace}
+use Rattle.machine.specs.Instruction.{Flag, Instruction, Trace}
+use Rattle.machine.specs.Time.{settle}
 use Rattle.record.specs.Refusal.{_then_, _unless_, brokenRecord, outOfRange, wrongLength, unknownFlag}
 use Rattle.record.specs.Layout.{recordSize, flagsAt, byte, fieldsFrom}
 use Rattle.record.specs.Rules.{breaksRules, hasUnknown, kindNumber, flagNumber, instructionOf}
@@ -58,6 +59,10 @@ recordOf i =
 unfoldable pub bodyOf : Trace → List ℕ
 bodyOf [] = []
 bodyOf (i ∷ trace) = recordOf i ++ bodyOf trace
+
+-- the settling in which every unknown flag is the one flag, as a body
+unfoldable pub settledBody : Flag → List ℕ → List ℕ
+settledBody to body = bodyOf (settle to (traceOf body))
 
 -- "10 length not ten times a number up to 4,096"
 unfoldable pub lengthRefusal : List ℕ → ℕ

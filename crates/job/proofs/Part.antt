@@ -1,0 +1,57 @@
+-- The part of the file that `locate`'s answer names is the body that Open hands back: an accepted body lies in its file, and a refusal names an
+-- empty part.
+use Prim.Native.Nat.{ℕ, suc, _<_}
+use mathlib.Core.Bool.{Bool, true, false}
+use mathlib.Core.List.{List, []}
+use mathlib.Core.Path.{_≡_, refl, sym, subst}
+use borrow.Author.Tests.{ltb-true, le-leb, eqb-true}
+use native.Mathlib.Nat.{add-sub-cancel-left}
+use native.Mathlib.Omega.{arith}
+use lib.Dec.{eqb}
+use lib.ListN.{length}
+use Rattle.record.proofs.Refusals.{then-first, then-second, unless-passed}
+use Rattle.job.specs.Layout.{traces, countAt, startAt, bodyAt}
+use Rattle.job.specs.Open.{fileRefusal, openRefusal, openBody, locateAnswer, partOf}
+use Rattle.job.specs.declared.table.Located.{Located}
+use Rattle.job.proofs.Accepted.{file-fine}
+use Rattle.job.proofs.Entries.{start-suc}
+use Rattle.job.proofs.Joined.{body-inside}
+
+module _ (file : List ℕ) (trace : ℕ) where
+  pub opened-file : openRefusal file trace ≡ 0 → fileRefusal file ≡ 0
+  unfolding openRefusal
+  opened-file e = then-first _ _ e
+
+  pub opened-trace : openRefusal file trace ≡ 0 → trace < traces file
+  unfolding openRefusal
+  opened-trace e = ltb-true _ _ (unless-passed _ _ (then-second _ _ e))
+
+  part-body : openRefusal file trace ≡ 0 → partOf file (startAt file trace) (startAt file (suc trace)) ≡ bodyAt file trace
+  unfolding partOf
+  part-body e =
+      rw (
+        start-suc (traces file) (countAt file) trace,
+        le-leb _ _ (body-inside file (file-fine file (opened-file e) .ends) trace (opened-trace e)),
+        add-sub-cancel-left,
+      )
+
+  part-none : partOf file 0 0 ≡ []
+  unfolding partOf
+  part-none = rw (le-leb 0 (length file) (omega arith))
+
+  by-refusal
+      : (accepts : Bool) → eqb (openRefusal file trace) 0 ≡ accepts →
+      (locateAnswer file trace .refusal ≡ openRefusal file trace)
+      × (partOf file (locateAnswer file trace .start) (locateAnswer file trace .end) ≡ openBody file trace)
+  unfolding locateAnswer openBody
+  by-refusal true e = rw e (sym (eqb-true _ _ e), part-body (eqb-true _ _ e))
+  by-refusal false e = rw e (refl, part-none)
+
+  pub located
+      : (l : Located) → l ≡ locateAnswer file trace →
+      (l .refusal ≡ openRefusal file trace) × (partOf file (l .start) (l .end) ≡ openBody file trace)
+  located l e =
+      subst
+      (λ (x : Located). (x .refusal ≡ openRefusal file trace) × (partOf file (x .start) (x .end) ≡ openBody file trace))
+      (sym e)
+      (by-refusal _ refl)
