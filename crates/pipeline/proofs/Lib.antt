@@ -1,0 +1,3 @@
+pub mod RunState
+pub mod RunPass
+pub mod RunAnswer
