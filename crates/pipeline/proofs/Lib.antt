@@ -5,3 +5,6 @@ pub mod Entry
 pub mod Going
 pub mod Slots
 pub mod Answer
+pub mod RunState
+pub mod RunPass
+pub mod RunAnswer

@@ -1,10 +1,13 @@
-// One cycle of the pipeline: the public call Step, and what it is made of.
+// The pipeline, one cycle on and many: the public calls Step and Run.
 mod hazards;
 mod moving;
 mod orderly;
 mod reading;
 pub mod refusal;
+pub mod running;
 pub mod stepping;
 
+pub use running::Ran;
+pub use running::run;
 pub use stepping::Stepped;
 pub use stepping::step;

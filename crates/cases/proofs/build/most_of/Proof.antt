@@ -1,0 +1,58 @@
+use Rattle.cases.proofs.build.most_of.Statement.{statement}
+use Rattle.cases.proofs.build.most_of.Tie as tie
+use Rattle.cases.proofs.build.most_of.Reads as reads
+use Rattle.cases.proofs.build.most_of.Lts as lts
+use Rattle.cases.proofs.build.record_of.Reads as record-of-reads
+
+abbrev Inv-loop : tie.InvT-loop
+Inv-loop one body₀ i₀ body i = ?
+
+abbrev μ-loop : tie.MeasureT-loop
+μ-loop one body₀ i₀ body i = ?
+
+-- src/build.rt:90:15
+record-of-requires : tie.Need-record-of-requires Inv-loop μ-loop
+record-of-requires c κs = ?
+
+-- src/build.rt:93:5
+loop-holds : tie.Need-loop-holds Inv-loop μ-loop
+loop-holds c = ?
+
+-- src/build.rt:94:19
+array-read-body : tie.Need-array-read-body Inv-loop μ-loop
+array-read-body c = ?
+
+-- src/build.rt:94:9
+array-write-body : tie.Need-array-write-body Inv-loop μ-loop
+array-write-body c = ?
+
+-- src/build.rt:95:9
+add-i : tie.Need-add-i Inv-loop μ-loop
+add-i c = ?
+
+-- src/build.rt:93:5
+loop-less : tie.Need-loop-less Inv-loop μ-loop
+loop-less c = ?
+
+-- src/build.rt:93:5
+loop-again : tie.Need-loop-again Inv-loop μ-loop
+loop-again c = ?
+
+-- src/build.rt:89:1
+returns : tie.Need-returns Inv-loop μ-loop
+returns c = ?
+
+pub most-of-spec : {M : Type 1} → statement M
+most-of-spec =
+    tie.close
+    (tie.spec
+    Inv-loop
+    μ-loop
+    record-of-requires
+    loop-holds
+    array-read-body
+    array-write-body
+    add-i
+    loop-less
+    loop-again
+    returns)

@@ -1,0 +1,152 @@
+// Finishing times, best and worst, margins and likeness.
+use crate::build::branch;
+use crate::build::fetched;
+use crate::build::memory;
+use crate::build::most_of;
+use crate::build::part;
+use crate::build::plain;
+use crate::build::record_of;
+use crate::build::registers;
+use crate::build::two_of;
+use crate::build::unlawful;
+use crate::report::Tally;
+use record::Fields;
+
+const LOAD: u32 = 1;
+const STORE: u32 = 2;
+const HIT: u32 = 0;
+const MISS: u32 = 1;
+const UNKNOWN: u32 = 2;
+
+// "n plain take n + 5 for n above 0"
+pub fn plain_ones() {
+    let body = most_of(plain());
+    let mut tally = Tally::new();
+    let mut n: u32 = 1;
+    while n <= 4096 {
+        let found = timing::finish(part(&body, n as usize * 10));
+        tally = tally.and(found.refusal == 0 && found.time == n + 5);
+        n += 1;
+    }
+    tally.line(b"n plain take n + 5");
+}
+
+// The body has these best and worst times, and, where they are equal, this finishing time.
+fn takes(body: &[u8], best: u32, worst: u32) -> bool {
+    let both = timing::best_worst(body);
+    if both.refusal != 0 || both.best != best || both.worst != worst {
+        return false;
+    }
+    let found = timing::finish(body);
+    if best == worst {
+        return found.refusal == 0 && found.time == best;
+    }
+    found.refusal == 11 && found.time == 0
+}
+
+fn one(only: Fields, time: u32) -> bool {
+    let body = record_of(only);
+    takes(&body, time, time)
+}
+
+fn two(older: Fields, younger: Fields, time: u32) -> bool {
+    let body = two_of(older, younger);
+    takes(&body, time, time)
+}
+
+// A to L through the calls.
+pub fn worked() {
+    let load_miss = memory(LOAD, MISS, 10);
+    let load_hit = memory(LOAD, HIT, 1);
+    let store_miss = memory(STORE, MISS, 10);
+    let none = record_of(plain());
+    let mut tally = Tally::new().and(takes(part(&none, 0), 0, 0));
+    tally = tally.and(one(plain(), 6));
+    tally = tally.and(one(load_miss, 16));
+    let into = registers(load_hit, 0, 0, 1);
+    tally = tally.and(two(into, registers(plain(), 1, 0, 2), 8));
+    tally = tally.and(two(branch(), plain(), 9));
+    tally = tally.and(two(load_hit, fetched(plain(), MISS, 10), 20));
+    tally = tally.and(two(load_miss, plain(), 17));
+    tally = tally.and(two(load_miss, fetched(plain(), MISS, 1), 21));
+    tally = tally.and(one(store_miss, 15));
+    tally = tally.and(two(store_miss, store_miss, 26));
+    tally = tally.and(two(store_miss, memory(STORE, HIT, 1), 16));
+    let open = two_of(memory(LOAD, UNKNOWN, 10), fetched(plain(), UNKNOWN, 1));
+    tally = tally.and(takes(&open, 7, 21));
+    tally.line(b"A to L");
+}
+
+// Readings of the rules that go astray, and cases that A to L leave open.
+pub fn astray() {
+    let load_miss = memory(LOAD, MISS, 10);
+    let load_hit = memory(LOAD, HIT, 1);
+    let store_miss = memory(STORE, MISS, 10);
+    let store_hit = memory(STORE, HIT, 1);
+    let mut tally = Tally::new();
+    tally = tally.and(two(load_miss, plain(), 17));
+    tally = tally.and(two(load_miss, fetched(plain(), MISS, 1), 21));
+    tally = tally.and(two(load_hit, fetched(plain(), MISS, 10), 20));
+    tally = tally.and(two(store_miss, plain(), 15));
+    tally = tally.and(two(plain(), plain(), 7));
+    tally = tally.and(two(store_hit, fetched(plain(), MISS, 10), 21));
+    let into = registers(load_miss, 0, 0, 1);
+    tally = tally.and(two(into, registers(plain(), 0, 1, 2), 18));
+    tally = tally.and(two(into, registers(plain(), 0, 2, 2), 17));
+    tally.line(b"readings that go astray");
+}
+
+// The longest latencies that a record has.
+fn slowest() -> Fields {
+    let mut f = fetched(memory(LOAD, MISS, 65535), MISS, 65535);
+    f.execution = 255;
+    f
+}
+
+// Each load waits for the one before to reach (MEM, 0): 4 more than its three latencies, and 2 at
+// the end.
+pub fn longest() {
+    let body = most_of(slowest());
+    Tally::new()
+        .and(takes(&body, 537923586, 537923586))
+        .line(b"longest trace");
+}
+
+fn likened(first: &[u8], second: &[u8], refusal: u32, alike: bool) -> bool {
+    let found = timing::alike(first, second);
+    found.refusal == refusal && found.alike == alike
+}
+
+pub fn likeness() {
+    let b = record_of(plain());
+    let other = two_of(branch(), memory(LOAD, UNKNOWN, 10));
+    let broken = record_of(unlawful());
+    let mut tally = Tally::new();
+    tally = tally.and(likened(&b, part(&other, 10), 0, true));
+    tally = tally.and(likened(&b, part(&other, 0), 0, false));
+    tally = tally.and(likened(&b, part(&other, 9), 10, false));
+    tally = tally.and(likened(&other, part(&b, 9), 11, false));
+    tally = tally.and(likened(&b, &other, 11, false));
+    tally = tally.and(likened(&broken, part(&b, 9), 8, false));
+    tally.line(b"alike");
+}
+
+fn left_over(body: &[u8], deadline: u32, refusal: u32, margin: i64) -> bool {
+    let found = timing::margin(body, deadline);
+    found.refusal == refusal && found.margin == margin
+}
+
+// "margin of B for deadlines 5, 6, 7 is -1, 0, 1", and at both ends of the deadline
+pub fn margins() {
+    let b = record_of(plain());
+    let broken = record_of(unlawful());
+    let mut tally = Tally::new();
+    tally = tally.and(left_over(&b, 5, 0, -1));
+    tally = tally.and(left_over(&b, 6, 0, 0));
+    tally = tally.and(left_over(&b, 7, 0, 1));
+    tally = tally.and(left_over(&b, 0, 0, -6));
+    tally = tally.and(left_over(&b, 4294967295, 0, 4294967289));
+    tally = tally.and(left_over(&broken, 7, 8, 0));
+    tally = tally.and(left_over(part(&b, 9), 7, 10, 0));
+    tally.line(b"margin");
+}

@@ -1,0 +1,27 @@
+-- `run` meets its contract: a refusal, or the run of an accepted body.
+use mathlib.Core.Path.{sym, _∙_}
+use borrow.Author.Needs.{needs}
+use Rattle.record.proofs.Accepted.{settled-accepted}
+use Rattle.pipeline.proofs.RunAnswer.{run-refused, run-accepted}
+use Rattle.pipeline.proofs.running.run.Statement.{statement}
+use Rattle.pipeline.proofs.running.run.Tie as tie
+
+settled-refusal-requires : tie.Need-settled-refusal-requires
+settled-refusal-requires c κs = search needs
+
+start-requires : tie.Need-start-requires
+start-requires c κs = search needs
+
+returns : tie.Need-returns
+returns c = run-refused _ _ (c .before .before .settled-refusal .ensures) (c .before .if1 .taken) (c .start .ensures)
+
+run-accepted-requires : tie.Need-run-accepted-requires
+run-accepted-requires c κs = settled-accepted _ (sym (c .before .settled-refusal .ensures) ∙ c .if1 .left)
+
+returns-2 : tie.Need-returns-2
+returns-2 c = run-accepted _ _ (c .before .before .settled-refusal .ensures) (c .before .if1 .left) (c .run-accepted .ensures)
+
+pub run-spec : {M : Type 1} → statement M
+run-spec =
+    tie.close
+    (tie.spec settled-refusal-requires start-requires returns run-accepted-requires returns-2)

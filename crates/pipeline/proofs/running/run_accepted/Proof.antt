@@ -1,0 +1,63 @@
+-- `run_accepted` meets its contract. The loop's invariant: the pass has come to instruction k.
+use Prim.Native.Nat.{_-_, _≤_}
+use native.Mathlib.Omega.{arith}
+use borrow.Author.Needs.{needs}
+use Rattle.record.proofs.Accepted.{few-records}
+use Rattle.pipeline.proofs.RunAnswer.{ran}
+use Rattle.pipeline.proofs.RunPass.{begins}
+use Rattle.pipeline.specs.Placing.{Passed}
+use Rattle.pipeline.proofs.running.run_accepted.Statement.{statement}
+use Rattle.pipeline.proofs.running.run_accepted.Tie as tie
+
+abbrev Inv-loop : tie.InvT-loop
+Inv-loop body limit records pass₀ k₀ pass k = (k ≤ records) × Passed body limit k pass
+
+abbrev μ-loop : tie.MeasureT-loop
+μ-loop body limit records pass₀ k₀ pass k = records - k
+
+cast-records : tie.Need-cast-records Inv-loop μ-loop
+cast-records c = omega (arith, few-records _ (c .before .pre))
+
+no-window-requires : tie.Need-no-window-requires Inv-loop μ-loop
+no-window-requires c κs = search needs
+
+start-requires : tie.Need-start-requires Inv-loop μ-loop
+start-requires c κs = search needs
+
+loop-holds : tie.Need-loop-holds Inv-loop μ-loop
+loop-holds c = (omega arith, begins _ _ (c .before .no-window .ensures) (c .start .ensures))
+
+pass-over-requires : tie.Need-pass-over-requires Inv-loop μ-loop
+pass-over-requires c κs = (c .before .before .before .before .before .pre, c .loop-test .taken, c .before .loop .inv .1)
+
+add-k : tie.Need-add-k Inv-loop μ-loop
+add-k c = omega (arith, few-records _ (c .before .before .before .before .before .before .pre))
+
+loop-less : tie.Need-loop-less Inv-loop μ-loop
+loop-less c = omega arith
+
+loop-again : tie.Need-loop-again Inv-loop μ-loop
+loop-again c = (omega arith, c .pass-over .ensures)
+
+smaller-requires : tie.Need-smaller-requires Inv-loop μ-loop
+smaller-requires c κs = search needs
+
+returns : tie.Need-returns Inv-loop μ-loop
+returns c = ran _ _ _ (c .before .before .before .before .loop .inv .1) (omega arith) (c .smaller .ensures)
+
+pub run-accepted-spec : {M : Type 1} → statement M
+run-accepted-spec =
+    tie.close
+    (tie.spec
+    Inv-loop
+    μ-loop
+    cast-records
+    no-window-requires
+    start-requires
+    loop-holds
+    pass-over-requires
+    add-k
+    loop-less
+    loop-again
+    smaller-requires
+    returns)

@@ -1,0 +1,30 @@
+-- What Run answers: document 01, "What each call does and when it declines".
+use Prim.Native.Nat.{ℕ, min}
+use mathlib.Core.Bool.{Bool, false, cond}
+use mathlib.Core.List.{List}
+use lib.Dec.{eqb}
+use Rattle.machine.specs.Instruction.{Trace}
+use Rattle.machine.specs.Rules.{after, allLeft}
+use Rattle.machine.specs.Time.{finish}
+use Rattle.machine.specs.State.{start, stateOf}
+use Rattle.record.specs.Body.{traceOf, settledRefusal}
+use Rattle.pipeline.specs.declared.running.Ran.{Ran}
+
+-- "goes from the start for at most a 32-bit limit of cycles, and gives the state, the number of cycles run (the smaller of limit and finishing
+-- time) and whether all have left": the state is the one after as many cycles of the rules as the count says
+unfoldable pub ranFor : Trace → ℕ → Ran
+ranFor trace limit =
+    let cycles = min limit (finish trace) in
+    record {
+      refusal = 0;
+      state = stateOf trace (after trace cycles);
+      cycles = cycles;
+      left = allLeft trace (after trace cycles);
+    }
+
+-- "10, 8, 11; a refusal returns the starting state."
+unfoldable pub runAnswer : List ℕ → ℕ → Ran
+runAnswer body limit =
+    cond (eqb (settledRefusal body) 0)
+    (ranFor (traceOf body) limit)
+    (record { refusal = settledRefusal body; state = start; cycles = 0; left = false })
