@@ -2,6 +2,7 @@
 // cases came out as they should.
 mod build;
 mod report;
+mod runs;
 mod times;
 
 fn main() {
@@ -11,4 +12,6 @@ fn main() {
     times::longest();
     times::likeness();
     times::margins();
+    runs::limits();
+    runs::long_run();
 }
