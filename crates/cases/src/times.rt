@@ -11,24 +11,34 @@ use crate::build::two_of;
 use crate::build::unlawful;
 use crate::report::Tally;
 use record::Fields;
+use timing::Likeness;
 
 const LOAD: u32 = 1;
+
 const STORE: u32 = 2;
+
 const HIT: u32 = 0;
+
 const MISS: u32 = 1;
+
 const UNKNOWN: u32 = 2;
+
+// Of n instructions that are all plain, for n from 1 to 4,096: which take n + 5.
+fn count_plain(body: &[u8]) -> Tally {
+    let mut tally = Tally::new();
+    let mut n: u32 = 1;
+    while n <= 4096 {
+        let found = timing::finish(part(body, n as usize * 10));
+        tally = tally.and(found.refusal == 0 && found.time == n + 5);
+        n += 1;
+    }
+    tally
+}
 
 // "n plain take n + 5 for n above 0"
 pub fn plain_ones() {
     let body = most_of(plain());
-    let mut tally = Tally::new();
-    let mut n: u32 = 1;
-    while n <= 4096 {
-        let found = timing::finish(part(&body, n as usize * 10));
-        tally = tally.and(found.refusal == 0 && found.time == n + 5);
-        n += 1;
-    }
-    tally.line(b"n plain take n + 5");
+    count_plain(&body).line(b"n plain take n + 5");
 }
 
 // The body has these best and worst times, and, where they are equal, this finishing time.
@@ -49,9 +59,20 @@ fn one(only: Fields, time: u32) -> bool {
     takes(&body, time, time)
 }
 
+fn nothing() -> bool {
+    let body = record_of(plain());
+    takes(part(&body, 0), 0, 0)
+}
+
 fn two(older: Fields, younger: Fields, time: u32) -> bool {
     let body = two_of(older, younger);
     takes(&body, time, time)
+}
+
+// L: "7 best, 21 worst"
+fn settled() -> bool {
+    let body = two_of(memory(LOAD, UNKNOWN, 10), fetched(plain(), UNKNOWN, 1));
+    takes(&body, 7, 21)
 }
 
 // A to L through the calls.
@@ -59,8 +80,7 @@ pub fn worked() {
     let load_miss = memory(LOAD, MISS, 10);
     let load_hit = memory(LOAD, HIT, 1);
     let store_miss = memory(STORE, MISS, 10);
-    let none = record_of(plain());
-    let mut tally = Tally::new().and(takes(part(&none, 0), 0, 0));
+    let mut tally = Tally::new().and(nothing());
     tally = tally.and(one(plain(), 6));
     tally = tally.and(one(load_miss, 16));
     let into = registers(load_hit, 0, 0, 1);
@@ -72,8 +92,7 @@ pub fn worked() {
     tally = tally.and(one(store_miss, 15));
     tally = tally.and(two(store_miss, store_miss, 26));
     tally = tally.and(two(store_miss, memory(STORE, HIT, 1), 16));
-    let open = two_of(memory(LOAD, UNKNOWN, 10), fetched(plain(), UNKNOWN, 1));
-    tally = tally.and(takes(&open, 7, 21));
+    tally = tally.and(settled());
     tally.line(b"A to L");
 }
 
@@ -112,41 +131,46 @@ pub fn longest() {
         .line(b"longest trace");
 }
 
-fn likened(first: &[u8], second: &[u8], refusal: u32, alike: bool) -> bool {
-    let found = timing::alike(first, second);
-    found.refusal == refusal && found.alike == alike
+// Alike of the first n and the first m bytes.
+fn likened(first: [u8; 20], n: usize, second: [u8; 20], m: usize) -> Likeness {
+    timing::alike(part(&first, n), part(&second, m))
 }
 
 pub fn likeness() {
-    let b = record_of(plain());
+    let b = two_of(plain(), plain());
     let other = two_of(branch(), memory(LOAD, UNKNOWN, 10));
-    let broken = record_of(unlawful());
+    let broken = two_of(unlawful(), plain());
     let mut tally = Tally::new();
-    tally = tally.and(likened(&b, part(&other, 10), 0, true));
-    tally = tally.and(likened(&b, part(&other, 0), 0, false));
-    tally = tally.and(likened(&b, part(&other, 9), 10, false));
-    tally = tally.and(likened(&other, part(&b, 9), 11, false));
-    tally = tally.and(likened(&b, &other, 11, false));
-    tally = tally.and(likened(&broken, part(&b, 9), 8, false));
+    let same = likened(b, 10, other, 10);
+    tally = tally.and(same.refusal == 0 && same.alike);
+    let longer = likened(b, 20, other, 10);
+    tally = tally.and(longer.refusal == 0 && !longer.alike);
+    let cut = likened(b, 10, other, 9);
+    tally = tally.and(cut.refusal == 10 && !cut.alike);
+    let first = likened(other, 20, b, 9);
+    tally = tally.and(first.refusal == 11 && !first.alike);
+    let second = likened(b, 10, other, 20);
+    tally = tally.and(second.refusal == 11 && !second.alike);
+    let wrong = likened(broken, 10, other, 9);
+    tally = tally.and(wrong.refusal == 8 && !wrong.alike);
     tally.line(b"alike");
 }
 
-fn left_over(body: &[u8], deadline: u32, refusal: u32, margin: i64) -> bool {
-    let found = timing::margin(body, deadline);
+fn left_over(only: Fields, n: usize, deadline: u32, refusal: u32, margin: i64) -> bool {
+    let body = record_of(only);
+    let found = timing::margin(part(&body, n), deadline);
     found.refusal == refusal && found.margin == margin
 }
 
 // "margin of B for deadlines 5, 6, 7 is -1, 0, 1", and at both ends of the deadline
 pub fn margins() {
-    let b = record_of(plain());
-    let broken = record_of(unlawful());
     let mut tally = Tally::new();
-    tally = tally.and(left_over(&b, 5, 0, -1));
-    tally = tally.and(left_over(&b, 6, 0, 0));
-    tally = tally.and(left_over(&b, 7, 0, 1));
-    tally = tally.and(left_over(&b, 0, 0, -6));
-    tally = tally.and(left_over(&b, 4294967295, 0, 4294967289));
-    tally = tally.and(left_over(&broken, 7, 8, 0));
-    tally = tally.and(left_over(part(&b, 9), 7, 10, 0));
+    tally = tally.and(left_over(plain(), 10, 5, 0, -1));
+    tally = tally.and(left_over(plain(), 10, 6, 0, 0));
+    tally = tally.and(left_over(plain(), 10, 7, 0, 1));
+    tally = tally.and(left_over(plain(), 10, 0, 0, -6));
+    tally = tally.and(left_over(plain(), 10, 4294967295, 0, 4294967289));
+    tally = tally.and(left_over(unlawful(), 10, 7, 8, 0));
+    tally = tally.and(left_over(plain(), 9, 7, 10, 0));
     tally.line(b"margin");
 }

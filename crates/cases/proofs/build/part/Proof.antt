@@ -1,3 +1,5 @@
+use lib.Seq.{length-take-le}
+use mathlib.Core.Path.{sym}
 use borrow.Author.Needs.{needs}
 use Rattle.cases.proofs.build.part.Statement.{statement}
 use Rattle.cases.proofs.build.part.Tie as tie
@@ -6,7 +8,7 @@ use Rattle.cases.proofs.build.part.Lts as lts
 
 -- src/build.rt:103:9
 slice-aggregate-result : tie.Need-slice-aggregate-result
-slice-aggregate-result c = ?
+slice-aggregate-result c = sym (length-take-le _ _ (c .before .if1 .taken))
 
 -- src/build.rt:103:9
 returns : tie.Need-returns

@@ -1,3 +1,8 @@
+use lib.ListN.{length, length-set}
+use borrow.Author.Needs.{needs}
+use native.Mathlib.Omega.{arith}
+use mathlib.Core.Path.{_≡_, refl}
+use Prim.Native.Nat.{_-_, _≤_}
 use Rattle.cases.proofs.build.two_of.Statement.{statement}
 use Rattle.cases.proofs.build.two_of.Tie as tie
 use Rattle.cases.proofs.build.two_of.Reads as reads
@@ -5,58 +10,58 @@ use Rattle.cases.proofs.build.two_of.Lts as lts
 use Rattle.cases.proofs.build.record_of.Reads as record-of-reads
 
 abbrev Inv-loop : tie.InvT-loop
-Inv-loop a b body₀ i₀ body i = ?
+Inv-loop a b body₀ i₀ body i = (i ≤ 10)
 
 abbrev μ-loop : tie.MeasureT-loop
-μ-loop a b body₀ i₀ body i = ?
+μ-loop a b body₀ i₀ body i = 10 - i
 
 -- src/build.rt:76:13
 record-of-requires : tie.Need-record-of-requires Inv-loop μ-loop
-record-of-requires c κs = ?
+record-of-requires c κs = search needs
 
 -- src/build.rt:77:13
 record-of-requires-2 : tie.Need-record-of-requires-2 Inv-loop μ-loop
-record-of-requires-2 c κs = ?
+record-of-requires-2 c κs = search needs
 
 -- src/build.rt:80:5
 loop-holds : tie.Need-loop-holds Inv-loop μ-loop
-loop-holds c = ?
+loop-holds c = omega arith
 
 -- src/build.rt:81:19
 array-read-body : tie.Need-array-read-body Inv-loop μ-loop
-array-read-body c = ?
+array-read-body c = search needs
 
 -- src/build.rt:81:9
 array-write-body : tie.Need-array-write-body Inv-loop μ-loop
-array-write-body c = ?
+array-write-body c = search needs
 
 -- src/build.rt:82:24
 array-read-body-2 : tie.Need-array-read-body-2 Inv-loop μ-loop
-array-read-body-2 c = ?
+array-read-body-2 c = search needs
 
 -- src/build.rt:82:14
 add-body : tie.Need-add-body Inv-loop μ-loop
-add-body c = ?
+add-body c = omega arith
 
 -- src/build.rt:82:9
 array-write-body-2 : tie.Need-array-write-body-2 Inv-loop μ-loop
-array-write-body-2 c = ?
+array-write-body-2 c = search needs
 
 -- src/build.rt:83:9
 add-i : tie.Need-add-i Inv-loop μ-loop
-add-i c = ?
+add-i c = omega arith
 
 -- src/build.rt:80:5
 loop-less : tie.Need-loop-less Inv-loop μ-loop
-loop-less c = ?
+loop-less c = omega arith
 
 -- src/build.rt:80:5
 loop-again : tie.Need-loop-again Inv-loop μ-loop
-loop-again c = ?
+loop-again c = omega arith
 
 -- src/build.rt:75:1
 returns : tie.Need-returns Inv-loop μ-loop
-returns c = ?
+returns c = search needs
 
 pub two-of-spec : {M : Type 1} → statement M
 two-of-spec =
