@@ -1,5 +1,6 @@
 -- `run` meets its contract: a refusal, or the run of an accepted body.
 use mathlib.Core.Path.{sym, _∙_}
+use native.Mathlib.Omega.{arith}
 use borrow.Author.Needs.{needs}
 use Rattle.record.proofs.Accepted.{settled-accepted}
 use Rattle.pipeline.proofs.RunAnswer.{run-refused, run-accepted}
@@ -13,13 +14,13 @@ start-requires : tie.Need-start-requires
 start-requires c κs = search needs
 
 returns : tie.Need-returns
-returns c = run-refused _ _ (c .before .before .settled-refusal .ensures) (c .before .if1 .taken) (c .start .ensures)
+returns c = run-refused _ _ (c .before .before .settled-refusal .ensures) (omega arith) (c .start .ensures)
 
 run-accepted-requires : tie.Need-run-accepted-requires
-run-accepted-requires c κs = settled-accepted _ (sym (c .before .settled-refusal .ensures) ∙ c .if1 .left)
+run-accepted-requires c κs = settled-accepted _ (sym (c .before .settled-refusal .ensures) ∙ omega arith)
 
 returns-2 : tie.Need-returns-2
-returns-2 c = run-accepted _ _ (c .before .before .settled-refusal .ensures) (c .before .if1 .left) (c .run-accepted .ensures)
+returns-2 c = run-accepted _ _ (c .before .before .settled-refusal .ensures) (omega arith) (c .run-accepted .ensures)
 
 pub run-spec : {M : Type 1} → statement M
 run-spec =
