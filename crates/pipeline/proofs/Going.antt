@@ -1,6 +1,6 @@
 -- Who could move, and what is filled, bit by bit: where no instruction waits for another, none is held back.
 use Prim.Native.Nat.{ℕ, zero, suc}
-use mathlib.Core.Bool.{Bool, true, false, not}
+use mathlib.Core.Bool.{Bool, false, not, _||_}
 use mathlib.Core.Path.{_≡_, refl, sym, ap, _∙_}
 use Rattle.machine.specs.Test.{_and_}
 use Rattle.machine.specs.Instruction.{Instruction, Trace}
@@ -12,6 +12,7 @@ use Rattle.machine.proofs.Stages.{stageAt}
 use Rattle.machine.proofs.BySlots.{waitsFor, holdsBack, heldBack}
 use Rattle.pipeline.specs.Bits.{bitsOf}
 use Rattle.pipeline.specs.declared.moving.Bits.{Bits}
+use Rattle.pipeline.proofs.Joined.{either-of}
 
 -- only in pre, ID and EX does an instruction wait for another
 pub waits-elsewhere
@@ -25,6 +26,19 @@ waits-elsewhere (suc (suc (suc (suc zero)))) a b c i j = refl
 waits-elsewhere (suc (suc (suc (suc (suc zero))))) a b c i j = refl
 waits-elsewhere (suc (suc (suc (suc (suc (suc zero)))))) a b c i j = refl
 waits-elsewhere (suc (suc (suc (suc (suc (suc (suc n))))))) a b c i j = refl
+
+-- the six slots' answers joined
+pub held-by
+    : (trace : Trace) (s : State) (at : Stage) (i : ℕ) {a b c d e f : Bool} →
+    a ≡ holdsBack trace at i IF (s .IF) →
+    b ≡ holdsBack trace at i ID (s .ID) →
+    c ≡ holdsBack trace at i EX (s .EX) →
+    d ≡ holdsBack trace at i MEM (s .MEM) →
+    e ≡ holdsBack trace at i ST (s .ST) →
+    f ≡ holdsBack trace at i WB (s .WB) →
+    (a || b || c || d || e || f) ≡ heldBack trace s at i
+unfolding heldBack
+held-by trace s at i p q r t u v = either-of (either-of (either-of (either-of (either-of p q) r) t) u) v
 
 -- seven bits that a test gives
 pub bits-are

@@ -14,7 +14,7 @@ pending-requires : tie.Need-pending-requires
 pending-requires c κs = search needs
 
 waits-for-requires : tie.Need-waits-for-requires
-waits-for-requires c κs = search needs
+waits-for-requires c κs = tt
 
 returns : tie.Need-returns
 unfolding holdsBack instructionOf

@@ -2,14 +2,13 @@
 use Prim.Native.Nat.{ℕ}
 use mathlib.Core.Path.{refl, sym, ap, _∙_}
 use native.Mathlib.Omega.{arith}
-use borrow.Author.Needs.{needs}
 use Rattle.machine.proofs.Masks.{shortLevel, pending-level}
 use Rattle.pipeline.proofs.Joined.{both-of, either-of}
 use Rattle.pipeline.proofs.hazards.pending.Statement.{statement}
 use Rattle.pipeline.proofs.hazards.pending.Tie as tie
 
 goal-requires : tie.Need-goal-requires
-goal-requires c κs = search needs
+goal-requires c κs = tt
 
 returns : tie.Need-returns
 returns c =

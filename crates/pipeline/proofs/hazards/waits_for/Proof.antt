@@ -1,7 +1,6 @@
 -- `pipeline::hazards::waits_for` meets its contract: pre, ID and EX by their rules; elsewhere nothing waits.
 use mathlib.Core.Bool.{not}
 use mathlib.Core.Path.{sym, ap}
-use borrow.Author.Needs.{needs}
 use Rattle.machine.proofs.BySlots.{waitsFor}
 use Rattle.record.specs.Rules.{instructionOf}
 use Rattle.pipeline.proofs.Going.{waits-elsewhere}
@@ -15,14 +14,14 @@ unfolding waitsFor instructionOf
 returns c = rw (c .before .before .if1 .taken) (either-of (sym (branch-number _)) (ap not (sym (hit-number _))))
 
 reads-requires : tie.Need-reads-requires
-reads-requires c κs = search needs
+reads-requires c κs = tt
 
 returns-2 : tie.Need-returns-2
 unfolding waitsFor instructionOf
 returns-2 c = rw (c .before .before .if2 .taken) (both-of (sym (load-number _)) (c .reads .ensures))
 
 misses-data-requires : tie.Need-misses-data-requires
-misses-data-requires c κs = search needs
+misses-data-requires c κs = tt
 
 returns-3 : tie.Need-returns-3
 unfolding waitsFor instructionOf

@@ -1,6 +1,5 @@
 -- `pipeline::orderly::all_counted` meets its contract: each slot's count against its entry count.
 use mathlib.Core.Path.{ap, _∙_}
-use borrow.Author.Needs.{needs}
 use Rattle.machine.specs.Rules.{IF, EX, MEM, ST, entry}
 use Rattle.record.specs.Rules.{instructionOf}
 use Rattle.pipeline.specs.Orderly.{countOf}
@@ -10,31 +9,31 @@ use Rattle.pipeline.proofs.orderly.all_counted.Statement.{statement}
 use Rattle.pipeline.proofs.orderly.all_counted.Tie as tie
 
 entry-IF-requires : tie.Need-entry-IF-requires
-entry-IF-requires c κs = search needs
+entry-IF-requires c κs = tt
 
 counted-requires : tie.Need-counted-requires
-counted-requires c κs = search needs
+counted-requires c κs = tt
 
 counted-requires-2 : tie.Need-counted-requires-2
-counted-requires-2 c κs = search needs
+counted-requires-2 c κs = tt
 
 counted-requires-3 : tie.Need-counted-requires-3
-counted-requires-3 c κs = search needs
+counted-requires-3 c κs = tt
 
 entry-MEM-requires : tie.Need-entry-MEM-requires
-entry-MEM-requires c κs = search needs
+entry-MEM-requires c κs = tt
 
 counted-requires-4 : tie.Need-counted-requires-4
-counted-requires-4 c κs = search needs
+counted-requires-4 c κs = tt
 
 entry-ST-requires : tie.Need-entry-ST-requires
-entry-ST-requires c κs = search needs
+entry-ST-requires c κs = tt
 
 counted-requires-5 : tie.Need-counted-requires-5
-counted-requires-5 c κs = search needs
+counted-requires-5 c κs = tt
 
 counted-requires-6 : tie.Need-counted-requires-6
-counted-requires-6 c κs = search needs
+counted-requires-6 c κs = tt
 
 returns : tie.Need-returns
 unfolding entry instructionOf

@@ -6,22 +6,22 @@ use Rattle.pipeline.proofs.orderly.in_flight.Statement.{statement}
 use Rattle.pipeline.proofs.orderly.in_flight.Tie as tie
 
 filled-requires : tie.Need-filled-requires
-filled-requires c κs = search needs
+filled-requires c κs = tt
 
 filled-requires-2 : tie.Need-filled-requires-2
-filled-requires-2 c κs = search needs
+filled-requires-2 c κs = tt
 
 add-result : tie.Need-add-result
 add-result c = search needs
 
 filled-requires-3 : tie.Need-filled-requires-3
-filled-requires-3 c κs = search needs
+filled-requires-3 c κs = tt
 
 add-result-2 : tie.Need-add-result-2
 add-result-2 c = search needs
 
 filled-requires-4 : tie.Need-filled-requires-4
-filled-requires-4 c κs = search needs
+filled-requires-4 c κs = tt
 
 add-result-3 : tie.Need-add-result-3
 add-result-3 c = search needs

@@ -9,16 +9,16 @@ use Rattle.pipeline.proofs.orderly.in_order.Statement.{statement}
 use Rattle.pipeline.proofs.orderly.in_order.Tie as tie
 
 filled-requires : tie.Need-filled-requires
-filled-requires c κs = search needs
+filled-requires c κs = tt
 
 filled-requires-2 : tie.Need-filled-requires-2
-filled-requires-2 c κs = search needs
+filled-requires-2 c κs = tt
 
 add-before-EX : tie.Need-add-before-EX
 add-before-EX c = search needs
 
 filled-requires-3 : tie.Need-filled-requires-3
-filled-requires-3 c κs = search needs
+filled-requires-3 c κs = tt
 
 add-before-MEM : tie.Need-add-before-MEM
 add-before-MEM c = search needs
@@ -36,7 +36,7 @@ in-turn-requires-4 : tie.Need-in-turn-requires-4
 in-turn-requires-4 c κs = search needs
 
 in-flight-requires : tie.Need-in-flight-requires
-in-flight-requires c κs = search needs
+in-flight-requires c κs = tt
 
 in-turn-requires-5 : tie.Need-in-turn-requires-5
 in-turn-requires-5 c κs = search needs

@@ -16,7 +16,7 @@ cast-below : tie.Need-cast-below
 cast-below c = search needs
 
 in-flight-requires : tie.Need-in-flight-requires
-in-flight-requires c κs = search needs
+in-flight-requires c κs = tt
 
 add-below : tie.Need-add-below
 add-below c = search needs

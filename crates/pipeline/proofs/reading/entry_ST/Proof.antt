@@ -1,12 +1,11 @@
 -- `pipeline::reading::entry_ST` meets its contract: a data miss or none.
 use borrow.Author.Tests.{ne-eqb, eq-eqb}
-use borrow.Author.Needs.{needs}
 use Rattle.pipeline.proofs.Entry.{entry-ST}
 use Rattle.pipeline.proofs.reading.entry_ST.Statement.{statement}
 use Rattle.pipeline.proofs.reading.entry_ST.Tie as tie
 
 less-one-requires : tie.Need-less-one-requires
-less-one-requires c κs = search needs
+less-one-requires c κs = tt
 
 returns : tie.Need-returns
 returns c = rw (entry-ST, eq-eqb _ _ (c .before .if1 .taken)) (c .less-one .ensures)

@@ -1,6 +1,5 @@
 -- `pipeline::reading::fields` meets its contract: what is read at any index stands for the instruction there.
 use mathlib.Core.Path.{ap, _∙_}
-use borrow.Author.Needs.{needs}
 use Rattle.record.specs.declared.layout.Read.{Read}
 use Rattle.record.specs.Rules.{instructionOf}
 use Rattle.pipeline.proofs.Instructions.{read-instruction}
@@ -8,7 +7,7 @@ use Rattle.pipeline.proofs.reading.fields.Statement.{statement}
 use Rattle.pipeline.proofs.reading.fields.Tie as tie
 
 fields-at-requires : tie.Need-fields-at-requires
-fields-at-requires c κs = search needs
+fields-at-requires c κs = tt
 
 returns : tie.Need-returns
 returns c = ap (λ (r : Read). instructionOf (r .fields)) (c .before .fields-at .ensures) ∙ read-instruction _ _

@@ -15,19 +15,19 @@ use Rattle.pipeline.proofs.stepping.cycle.Statement.{statement}
 use Rattle.pipeline.proofs.stepping.cycle.Tie as tie
 
 going-requires : tie.Need-going-requires
-going-requires c κs = search needs
+going-requires c κs = tt
 
 mask-requires : tie.Need-mask-requires
-mask-requires c κs = search needs
+mask-requires c κs = tt
 
 full-requires : tie.Need-full-requires
-full-requires c κs = search needs
+full-requires c κs = tt
 
 mask-requires-2 : tie.Need-mask-requires-2
-mask-requires-2 c κs = search needs
+mask-requires-2 c κs = tt
 
 leaving-requires : tie.Need-leaving-requires
-leaving-requires c κs = search needs
+leaving-requires c κs = tt
 
 slots-after-requires : tie.Need-slots-after-requires
 slots-after-requires c κs = search needs

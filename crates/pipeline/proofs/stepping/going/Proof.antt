@@ -2,7 +2,6 @@
 use mathlib.Core.Path.{refl, sym, ap, _∙_}
 use mathlib.Core.Bool.{not}
 use lib.Dec.{ltb}
-use borrow.Author.Needs.{needs}
 use Rattle.machine.specs.Rules.{IF, MEM, ST, WB}
 use Rattle.machine.proofs.Connectives.{and-true}
 use Rattle.machine.proofs.BySlots.{standing, goes, waitsFor}
@@ -12,31 +11,31 @@ use Rattle.pipeline.proofs.stepping.going.Statement.{statement}
 use Rattle.pipeline.proofs.stepping.going.Tie as tie
 
 held-back-requires : tie.Need-held-back-requires
-held-back-requires c κs = search needs
+held-back-requires c κs = tt
 
 counted-down-requires : tie.Need-counted-down-requires
-counted-down-requires c κs = search needs
+counted-down-requires c κs = tt
 
 counted-down-requires-2 : tie.Need-counted-down-requires-2
-counted-down-requires-2 c κs = search needs
+counted-down-requires-2 c κs = tt
 
 held-back-requires-2 : tie.Need-held-back-requires-2
-held-back-requires-2 c κs = search needs
+held-back-requires-2 c κs = tt
 
 counted-down-requires-3 : tie.Need-counted-down-requires-3
-counted-down-requires-3 c κs = search needs
+counted-down-requires-3 c κs = tt
 
 held-back-requires-3 : tie.Need-held-back-requires-3
-held-back-requires-3 c κs = search needs
+held-back-requires-3 c κs = tt
 
 counted-down-requires-4 : tie.Need-counted-down-requires-4
-counted-down-requires-4 c κs = search needs
+counted-down-requires-4 c κs = tt
 
 counted-down-requires-5 : tie.Need-counted-down-requires-5
-counted-down-requires-5 c κs = search needs
+counted-down-requires-5 c κs = tt
 
 counted-down-requires-6 : tie.Need-counted-down-requires-6
-counted-down-requires-6 c κs = search needs
+counted-down-requires-6 c κs = tt
 
 returns : tie.Need-returns
 unfolding standing goes waitsFor

@@ -1,7 +1,6 @@
 -- `pipeline::stepping::slot_after` meets its contract: what comes in, what stays, nothing.
 use mathlib.Core.Bool.{not}
 use mathlib.Core.Path.{sym, _∙_}
-use borrow.Author.Needs.{needs}
 use Rattle.machine.proofs.BySlots.{slotAfter}
 use Rattle.pipeline.proofs.Joined.{both}
 use Rattle.pipeline.proofs.stepping.slot_after.Statement.{statement}
@@ -12,7 +11,7 @@ unfolding slotAfter
 returns c = rw (c .if1 .taken)
 
 less-one-requires : tie.Need-less-one-requires
-less-one-requires c κs = search needs
+less-one-requires c κs = tt
 
 returns-2 : tie.Need-returns-2
 unfolding slotAfter

@@ -18,31 +18,31 @@ fetched-after-requires : tie.Need-fetched-after-requires
 fetched-after-requires c κs = search needs
 
 entry-IF-requires : tie.Need-entry-IF-requires
-entry-IF-requires c κs = search needs
+entry-IF-requires c κs = tt
 
 slot-after-requires : tie.Need-slot-after-requires
-slot-after-requires c κs = search needs
+slot-after-requires c κs = tt
 
 slot-after-requires-2 : tie.Need-slot-after-requires-2
-slot-after-requires-2 c κs = search needs
+slot-after-requires-2 c κs = tt
 
 slot-after-requires-3 : tie.Need-slot-after-requires-3
-slot-after-requires-3 c κs = search needs
+slot-after-requires-3 c κs = tt
 
 entry-MEM-requires : tie.Need-entry-MEM-requires
-entry-MEM-requires c κs = search needs
+entry-MEM-requires c κs = tt
 
 slot-after-requires-4 : tie.Need-slot-after-requires-4
-slot-after-requires-4 c κs = search needs
+slot-after-requires-4 c κs = tt
 
 entry-ST-requires : tie.Need-entry-ST-requires
-entry-ST-requires c κs = search needs
+entry-ST-requires c κs = tt
 
 slot-after-requires-5 : tie.Need-slot-after-requires-5
-slot-after-requires-5 c κs = search needs
+slot-after-requires-5 c κs = tt
 
 slot-after-requires-6 : tie.Need-slot-after-requires-6
-slot-after-requires-6 c κs = search needs
+slot-after-requires-6 c κs = tt
 
 returns : tie.Need-returns
 unfolding standing before takes arrives entry instructionOf

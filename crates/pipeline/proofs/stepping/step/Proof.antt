@@ -12,7 +12,7 @@ use Rattle.pipeline.proofs.stepping.step.Statement.{statement}
 use Rattle.pipeline.proofs.stepping.step.Tie as tie
 
 settled-refusal-requires : tie.Need-settled-refusal-requires
-settled-refusal-requires c κs = search needs
+settled-refusal-requires c κs = tt
 
 returns : tie.Need-returns
 unfolding stepRefusal
@@ -22,10 +22,10 @@ records-requires : tie.Need-records-requires
 records-requires c κs = search needs
 
 read-stages-requires : tie.Need-read-stages-requires
-read-stages-requires c κs = search needs
+read-stages-requires c κs = tt
 
 orderly-requires : tie.Need-orderly-requires
-orderly-requires c κs = search needs
+orderly-requires c κs = tt
 
 cycle-requires : tie.Need-cycle-requires
 cycle-requires c κs =
