@@ -50,6 +50,20 @@ fetched fetch latency i =
       dataLatency = i .dataLatency;
     }
 
+executed : ℕ → Instruction → Instruction
+executed latency i =
+    record {
+      kind = i .kind;
+      fetch = i .fetch;
+      access = i .access;
+      source1 = i .source1;
+      source2 = i .source2;
+      target = i .target;
+      executionLatency = latency;
+      fetchLatency = i .fetchLatency;
+      dataLatency = i .dataLatency;
+    }
+
 registers : ℕ → ℕ → ℕ → Instruction → Instruction
 registers source1 source2 target i =
     record {
@@ -87,6 +101,20 @@ cases =
     ∷ settledCase (simple store miss 10 ∷ simple store miss 10 ∷ []) 26
     ∷ settledCase (simple store miss 10 ∷ simple store hit 1 ∷ []) 16
     ∷ record { trace = simple load unknown 10 ∷ fetched unknown 1 plainOne ∷ []; best = 7; worst = 21 }
+    ∷ []
+
+-- What A to L do not show: a dependence by the second source, and by register 0 none; a missing fetch behind an older store, and a hitting one;
+-- a data hit behind a pending store, and a miss; a branch that takes cycles to execute.
+unfoldable pub further : List Case
+unfolding simple plainOne fetched executed registers settledCase
+further =
+    settledCase (registers 0 0 1 (simple load hit 1) ∷ registers 0 1 2 plainOne ∷ []) 8
+    ∷ settledCase (registers 0 0 0 (simple load hit 1) ∷ registers 0 0 2 plainOne ∷ []) 7
+    ∷ settledCase (simple store hit 1 ∷ fetched miss 10 plainOne ∷ []) 21
+    ∷ settledCase (simple store miss 10 ∷ plainOne ∷ []) 15
+    ∷ settledCase (simple store miss 10 ∷ simple load hit 1 ∷ []) 15
+    ∷ settledCase (simple store miss 10 ∷ simple load miss 10 ∷ []) 27
+    ∷ settledCase (executed 2 (simple branch hit 0) ∷ plainOne ∷ []) 11
     ∷ []
 
 unfoldable pub casesHold : List Case → Bool

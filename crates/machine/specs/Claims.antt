@@ -9,13 +9,17 @@ use Rattle.machine.specs.Instruction.{hit, miss, Instruction, Trace, ins
 use Rattle.machine.specs.Rules.{Place, Places, further, cycle, after, allLeft}
 use Rattle.machine.specs.Time.{bound, finish, Settling, settle, best, worst}
 use Rattle.machine.specs.Order.{Slower, SameFlags, added}
-use Rattle.machine.specs.Cases.{cases, casesHold, caseD, rows, chartOfD}
+use Rattle.machine.specs.Cases.{cases, further as furtherCases, casesHold, caseD, rows, chartOfD}
 use Rattle.machine.specs.State.{start, placeOf, stateOf, Orderly, orderly}
 use Rattle.machine.specs.declared.State.{State}
 
 -- "A to L are collected as data and proved by one result about the rules."
 abbrev pub CasesHold : Type 0
 CasesHold = T (casesHold cases)
+
+-- and what A to L do not show, the same way
+abbrev pub FurtherHold : Type 0
+FurtherHold = T (casesHold furtherCases)
 
 -- D's chart, row by row
 abbrev pub ChartHolds : Type 0
