@@ -1,7 +1,7 @@
 // The schedule of a trace, one instruction after the other: the times at which it enters each stage,
 // from a window of constant size on those before it, and its place at a cycle. No public call of
 // document 01 is here; Run, Finish, and Best and worst are passes that call these functions.
-pub mod choice;
+mod choice;
 pub mod flags;
 pub mod levels;
 pub mod parts;

@@ -1,5 +1,6 @@
 // The public calls. A refusal gives its number, and zeros or no for the rest.
 ghost use mathlib.Core.Path.{_≡_};
+ghost use lib.IntN.{pos, _-ℤ_};
 ghost use Rattle.timing.specs.Answers.{
   finishAnswer,
   bestWorstAnswer,
@@ -71,6 +72,12 @@ pub fn best_worst(body: &[u8]) -> BestWorst
     }
 }
 
+fn difference(a: u32, b: u32) -> i64
+    ensures { λ r. ⌜ r ≡ pos a -ℤ pos b ⌝ }
+{
+    a as i64 - b as i64
+}
+
 // The deadline minus the worst time.
 pub fn margin(body: &[u8], deadline: u32) -> DeadlineMargin
     ensures { λ r. ⌜ r ≡ marginAnswer (now (body .entry)) deadline ⌝ }
@@ -82,7 +89,7 @@ pub fn margin(body: &[u8], deadline: u32) -> DeadlineMargin
     let worst = finish_settled(body, MISS);
     DeadlineMargin {
         refusal: 0,
-        margin: deadline as i64 - worst as i64,
+        margin: difference(deadline, worst),
     }
 }
 

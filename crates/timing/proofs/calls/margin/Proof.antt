@@ -1,6 +1,7 @@
--- `margin` meets its contract: the difference of the deadline and the worst time fits its 64 bits.
+-- `margin` meets its contract: the worst time of one pass, and the difference as it stands in its 64 bits.
+use mir.Syntax.{w64}
+use mir.ValLaws.{toZ-ofZ}
 use mathlib.Core.Path.{sym, _∙_}
-use Rattle.timing.proofs.Difference.{difference-fits, difference-is}
 use Rattle.timing.proofs.Answered.{margin-refused, margin-given}
 use borrow.Author.Needs.{needs}
 use Rattle.timing.proofs.calls.margin.Statement.{statement}
@@ -15,26 +16,13 @@ returns c = margin-refused _ _ (c .before .body-refusal .ensures) (c .if1 .taken
 finish-settled-requires : tie.Need-finish-settled-requires
 finish-settled-requires c κs = search needs
 
-cast-t6 : tie.Need-cast-t6
-cast-t6 c = search needs
-
-cast-t7 : tie.Need-cast-t7
-cast-t7 c = search needs
-
-sub-t8 : tie.Need-sub-t8
-sub-t8 c = difference-fits _ _ (c .before .before .before .before .fits .deadline .fits) (c .finish-settled .ok)
+difference-requires : tie.Need-difference-requires
+difference-requires c κs = search needs
 
 returns-2 : tie.Need-returns-2
-returns-2 c = margin-given _ _ (sym (c .before .before .body-refusal .ensures) ∙ c .before .if1 .left) (c .finish-settled .ensures) (difference-is _ _ (c .before .before .before .before .fits .deadline .fits) (c .finish-settled .ok))
+returns-2 c = margin-given _ _ (sym (c .before .before .before .body-refusal .ensures) ∙ c .before .before .if1 .left) (c .before .finish-settled .ensures) (toZ-ofZ w64 (c .difference .result) (record { sfits = c .difference .ok }) ∙ c .difference .ensures)
 
 pub margin-spec : {M : Type 1} → statement M
 margin-spec =
     tie.close
-    (tie.spec
-    body-refusal-requires
-    returns
-    finish-settled-requires
-    cast-t6
-    cast-t7
-    sub-t8
-    returns-2)
+    (tie.spec body-refusal-requires returns finish-settled-requires difference-requires returns-2)
