@@ -25,12 +25,16 @@ pub fn put_text(out: &mut [u8], at: usize, text: &[u8]) -> usize {
     to
 }
 
+fn digit(n: u32) -> u8 {
+    b'0' + (n % 10) as u8
+}
+
 pub fn put_number(out: &mut [u8], at: usize, n: u32) -> usize {
-    let mut to = at;
-    if n >= 10 {
-        to = put_number(out, at, n / 10);
+    if n < 10 {
+        return put_byte(out, at, digit(n));
     }
-    put_byte(out, to, b'0' + (n % 10) as u8)
+    let to = put_number(out, at, n / 10);
+    put_byte(out, to, digit(n))
 }
 
 // A slot as index:count, or a dash.
