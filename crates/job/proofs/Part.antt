@@ -1,21 +1,25 @@
 -- The part of the file that `locate`'s answer names is the body that Open hands back: an accepted body lies in its file, and a refusal names an
--- empty part.
-use Prim.Native.Nat.{ℕ, suc, _<_}
+-- empty part. Such a body is accepted.
+use Prim.Native.Nat.{ℕ, suc, _<_, _/_, _%_}
 use mathlib.Core.Bool.{Bool, true, false}
 use mathlib.Core.List.{List, []}
-use mathlib.Core.Path.{_≡_, refl, sym, subst}
-use borrow.Author.Tests.{ltb-true, le-leb, eqb-true}
+use mathlib.Core.Path.{_≡_, refl, sym, subst, _∙_}
+use borrow.Author.Tests.{ltb-true, le-leb, eqb-true, eq-eqb}
 use native.Mathlib.Nat.{add-sub-cancel-left}
 use native.Mathlib.Omega.{arith}
 use lib.Dec.{eqb}
 use lib.ListN.{length}
-use Rattle.record.proofs.Refusals.{then-first, then-second, unless-passed}
+use Rattle.record.specs.Layout.{recordSize}
+use Rattle.record.specs.Refusal.{_unless_}
+use Rattle.record.specs.Body.{lengthRefusal, recordRefusal, bodyRefusal}
+use Rattle.record.proofs.Refusals.{then-first, then-second, then-none, unless-passed}
 use Rattle.job.specs.Layout.{traces, countAt, startAt, bodyAt}
-use Rattle.job.specs.Open.{fileRefusal, openRefusal, openBody, locateAnswer, partOf}
+use Rattle.job.specs.Open.{tracesRefusal, fileRefusal, openRefusal, openBody, locateAnswer, partOf}
 use Rattle.job.specs.declared.table.Located.{Located}
 use Rattle.job.proofs.Accepted.{file-fine}
 use Rattle.job.proofs.Entries.{start-suc}
-use Rattle.job.proofs.Joined.{body-inside}
+use Rattle.job.proofs.First.{first-at}
+use Rattle.job.proofs.Joined.{body-inside, body-length}
 
 module _ (file : List ℕ) (trace : ℕ) where
   pub opened-file : openRefusal file trace ≡ 0 → fileRefusal file ≡ 0
@@ -55,3 +59,16 @@ module _ (file : List ℕ) (trace : ℕ) where
       (λ (x : Located). (x .refusal ≡ openRefusal file trace) × (partOf file (x .start) (x .end) ≡ openBody file trace))
       (sym e)
       (by-refusal _ refl)
+
+  -- the body that Open hands back is accepted by every call that takes one
+  pub opened-accepted : openRefusal file trace ≡ 0 → bodyRefusal (openBody file trace) ≡ 0
+  unfolding openBody tracesRefusal bodyRefusal lengthRefusal _unless_
+  opened-accepted e =
+      let fine = file-fine file (opened-file e) in
+      let inside = opened-trace e in
+      let whole = body-length file (fine .ends) trace inside in
+      let few = fine .entries trace inside .0 in
+      rw (e)
+      (then-none _ _
+      (rw (eq-eqb (length (bodyAt file trace) % recordSize) 0 (omega arith), le-leb (length (bodyAt file trace) / recordSize) 4096 (omega arith)))
+      ∙ first-at (λ t. recordRefusal (bodyAt file t)) (traces file) (fine .records) trace inside)

@@ -5,6 +5,7 @@ pub mod table;
 pub mod writing;
 
 pub use opening::Opened;
+pub use opening::cut;
 pub use opening::open;
 pub use opening::open_body;
 pub use table::Located;

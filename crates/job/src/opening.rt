@@ -11,7 +11,7 @@ pub struct Opened<'a> {
 }
 
 // The bytes from start to end, or none where they are not all there.
-fn cut(file: &[u8], start: usize, end: usize) -> &[u8]
+pub fn cut(file: &[u8], start: usize, end: usize) -> &[u8]
     ensures { λ r. ⌜ now r ≡ partOf (now (file .entry)) start end ⌝ }
 {
     if end > file.len() || start > end {

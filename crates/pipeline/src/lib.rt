@@ -6,8 +6,10 @@ mod reading;
 pub mod refusal;
 pub mod running;
 pub mod stepping;
+mod worst;
 
 pub use running::Ran;
 pub use running::run;
 pub use stepping::Stepped;
 pub use stepping::step;
+pub use worst::next_worst;

@@ -7,7 +7,7 @@ ghost use lib.ListN.{length};
 ghost use Rattle.machine.specs.Test.{_and_};
 ghost use Rattle.machine.specs.Instruction.{Trace};
 ghost use Rattle.machine.proofs.BySlots.{goes, occupied, storeInMEM, leaves, slotAfter, stepBySlots};
-ghost use Rattle.record.specs.Body.{traceOf, settledRefusal};
+ghost use Rattle.record.specs.Body.{traceOf, bodyRefusal};
 ghost use Rattle.pipeline.specs.Reads.{Reads};
 ghost use Rattle.pipeline.specs.Bits.{bitsOf};
 ghost use Rattle.pipeline.specs.Step.{stepAnswer};
@@ -132,7 +132,7 @@ fn slots_after(s: State, w: Standing, moving: Bits, store: bool) -> State
     }
 }
 
-fn cycle(n: u32, s: State, w: Standing) -> State
+pub(crate) fn cycle(n: u32, s: State, w: Standing) -> State
     requires { ⌜ s .fetched ≤ 4096 ⌝ }
     ensures { λ r. ⌜ ((trace : Trace) → Reads trace s w → length trace ≡ n → r ≡ stepBySlots trace s) ⌝ }
 {
@@ -142,8 +142,8 @@ fn cycle(n: u32, s: State, w: Standing) -> State
 }
 
 // How many instructions an accepted body holds.
-fn records(body: &[u8]) -> u32
-    requires { ⌜ settledRefusal (now body) ≡ 0 ⌝ }
+pub(crate) fn records(body: &[u8]) -> u32
+    requires { ⌜ bodyRefusal (now body) ≡ 0 ⌝ }
     ensures { λ r. ⌜ (length (traceOf (now (body .entry))) ≡ r) × (r ≤ 4096) ⌝ }
 {
     (body.len() / RECORD_SIZE) as u32

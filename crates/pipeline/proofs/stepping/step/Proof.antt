@@ -5,6 +5,7 @@ use borrow.Author.Needs.{needs}
 use Rattle.machine.proofs.Step.{step-by-slots}
 use Rattle.machine.proofs.Orderly.{orderly-is-tested}
 use Rattle.record.proofs.Refusals.{stop, go-on, last-passes, last-fails}
+use Rattle.record.proofs.Accepted.{settled-accepted}
 use Rattle.record.specs.Body.{traceOf}
 use Rattle.pipeline.specs.Step.{stepRefusal}
 use Rattle.pipeline.proofs.Answer.{refused, stepped}
@@ -19,7 +20,7 @@ unfolding stepRefusal
 returns c = refused _ _ (stop _ (c .before .settled-refusal .ensures) (c .if1 .taken)) (c .if1 .taken)
 
 records-requires : tie.Need-records-requires
-records-requires c κs = search needs
+records-requires c κs = settled-accepted _ (sym (c .before .settled-refusal .ensures) ∙ c .if1 .left)
 
 read-stages-requires : tie.Need-read-stages-requires
 read-stages-requires c κs = tt
