@@ -1,17 +1,31 @@
-// The cases of document 01 that are run and not proved, each group on a line with how many of its
-// cases came out as they should.
+// The cases of document 01 that are run and not proved, each on a line as document 01 names it, with
+// how many of its inputs came out as they should.
 mod build;
 mod report;
 mod runs;
 mod times;
 
-fn main() {
+fn elsewhere() {
     times::plain_ones();
-    times::worked();
-    times::astray();
-    times::longest();
-    times::likeness();
-    times::margins();
     runs::limits();
+    runs::other_limits();
+    times::margins();
+    times::other_margins();
+    times::likeness();
+}
+
+fn astray() {
+    times::hit_turned_into_miss();
+    times::fetch_behind_memory();
+    runs::last_instruction_first();
+    times::stage_about_to_be_free();
+    times::dependences();
+}
+
+fn main() {
+    times::worked();
+    elsewhere();
+    astray();
+    times::longest();
     runs::long_run();
 }

@@ -4,6 +4,7 @@ use crate::build::most_of;
 use crate::build::part;
 use crate::build::plain;
 use crate::build::record_of;
+use crate::build::two_of;
 use crate::report::Tally;
 use pipeline::run;
 use record::Fields;
@@ -24,18 +25,39 @@ fn declined(only: Fields, n: usize, refusal: u32) -> bool {
     found.refusal == refusal && found.cycles == 0 && !found.left
 }
 
-// "limit 5 on B runs 5 cycles, limits 6 and 7 run 6"
 pub fn limits() {
     let mut tally = Tally::new();
-    tally = tally.and(runs(plain(), 10, 0, 0, false));
     tally = tally.and(runs(plain(), 10, 5, 5, false));
     tally = tally.and(runs(plain(), 10, 6, 6, true));
     tally = tally.and(runs(plain(), 10, 7, 6, true));
+    tally.line(b"limit 5 on B runs 5 cycles, limits 6 and 7 run 6");
+}
+
+pub fn other_limits() {
+    let mut tally = Tally::new();
+    tally = tally.and(runs(plain(), 10, 0, 0, false));
     tally = tally.and(runs(plain(), 10, 4294967295, 6, true));
     tally = tally.and(runs(plain(), 0, 0, 0, true));
     tally = tally.and(declined(memory(1, 2, 10), 10, 11));
     tally = tally.and(declined(plain(), 9, 10));
-    tally.line(b"run B");
+    tally.line(b"limits 0 and 4,294,967,295, the empty trace, and refused");
+}
+
+// Whether somebody stands in ST and in WB after a number of cycles.
+fn last_stages(body: &[u8], cycles: u32, in_st: bool, in_wb: bool) -> bool {
+    let found = run(body, cycles);
+    found.cycles == cycles && found.state.ST.filled == in_st && found.state.WB.filled == in_wb
+}
+
+// The plain one is in WB after 6 cycles and nowhere after 7; the store is in ST until the 15th.
+pub fn last_instruction_first() {
+    let body = two_of(memory(2, 1, 10), plain());
+    Tally::new()
+        .and(last_stages(&body, 6, true, true))
+        .and(last_stages(&body, 7, true, false))
+        .and(last_stages(&body, 14, true, false))
+        .and(last_stages(&body, 15, false, false))
+        .line(b"after a store with miss 10 a plain one leaves at 7, the store at 15");
 }
 
 // Of 4,096 missed loads the last stands in WB a cycle before the end.

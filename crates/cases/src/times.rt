@@ -96,23 +96,39 @@ pub fn worked() {
     tally.line(b"A to L");
 }
 
-// Readings of the rules that go astray, and cases that A to L leave open.
-pub fn astray() {
+// "Readings of the rules that go astray", each by what the rules give instead.
+pub fn hit_turned_into_miss() {
     let load_miss = memory(LOAD, MISS, 10);
-    let load_hit = memory(LOAD, HIT, 1);
-    let store_miss = memory(STORE, MISS, 10);
-    let store_hit = memory(STORE, HIT, 1);
-    let mut tally = Tally::new();
-    tally = tally.and(two(load_miss, plain(), 17));
-    tally = tally.and(two(load_miss, fetched(plain(), MISS, 1), 21));
-    tally = tally.and(two(load_hit, fetched(plain(), MISS, 10), 20));
-    tally = tally.and(two(store_miss, plain(), 15));
-    tally = tally.and(two(plain(), plain(), 7));
-    tally = tally.and(two(store_hit, fetched(plain(), MISS, 10), 21));
+    Tally::new()
+        .and(two(load_miss, plain(), 17))
+        .and(two(load_miss, fetched(plain(), MISS, 1), 21))
+        .line(b"a hit turned into a miss of latency 1, G to H, costs 4");
+}
+
+pub fn fetch_behind_memory() {
+    Tally::new()
+        .and(two(memory(LOAD, HIT, 1), fetched(plain(), MISS, 10), 20))
+        .and(two(memory(STORE, HIT, 1), fetched(plain(), MISS, 10), 21))
+        .line(b"a missing fetch goes ahead of no older load, F, and of no older store");
+}
+
+pub fn stage_about_to_be_free() {
+    Tally::new()
+        .and(two(plain(), plain(), 7))
+        .line(b"a stage about to be free is free: two plain take 7");
+}
+
+// A load into a source holds its reader back by either source; register 0 never does.
+pub fn dependences() {
+    let load_miss = memory(LOAD, MISS, 10);
     let into = registers(load_miss, 0, 0, 1);
+    let into_zero = registers(load_miss, 0, 0, 0);
+    let mut tally = Tally::new();
+    tally = tally.and(two(into, registers(plain(), 1, 0, 2), 18));
     tally = tally.and(two(into, registers(plain(), 0, 1, 2), 18));
     tally = tally.and(two(into, registers(plain(), 0, 2, 2), 17));
-    tally.line(b"readings that go astray");
+    tally = tally.and(two(into_zero, registers(plain(), 0, 0, 2), 17));
+    tally.line(b"a load into the first source, the second, neither, and register 0");
 }
 
 // The longest latencies that a record has.
@@ -162,15 +178,19 @@ fn left_over(only: Fields, n: usize, deadline: u32, refusal: u32, margin: i64) -
     found.refusal == refusal && found.margin == margin
 }
 
-// "margin of B for deadlines 5, 6, 7 is -1, 0, 1", and at both ends of the deadline
 pub fn margins() {
     let mut tally = Tally::new();
     tally = tally.and(left_over(plain(), 10, 5, 0, -1));
     tally = tally.and(left_over(plain(), 10, 6, 0, 0));
     tally = tally.and(left_over(plain(), 10, 7, 0, 1));
+    tally.line(b"margin of B for deadlines 5, 6, 7 is -1, 0, 1");
+}
+
+pub fn other_margins() {
+    let mut tally = Tally::new();
     tally = tally.and(left_over(plain(), 10, 0, 0, -6));
     tally = tally.and(left_over(plain(), 10, 4294967295, 0, 4294967289));
     tally = tally.and(left_over(unlawful(), 10, 7, 8, 0));
     tally = tally.and(left_over(plain(), 9, 7, 10, 0));
-    tally.line(b"margin");
+    tally.line(b"margin for deadlines 0 and 4,294,967,295, and refused");
 }

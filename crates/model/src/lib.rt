@@ -1,0 +1,45 @@
+// The second model of the in-order core: the cycle rules and the checks of the document, read
+// literally, for programs that hold the engine against it. It shares no code with the engine.
+mod body;
+mod job;
+mod places;
+mod rules;
+mod runs;
+mod settlings;
+mod trace;
+
+pub use body::body_refusal;
+pub use body::settled_refusal;
+pub use job::Opened;
+pub use job::open;
+pub use job::open_refusal;
+pub use job::write_refusal;
+pub use places::EX;
+pub use places::ID;
+pub use places::IF;
+pub use places::MEM;
+pub use places::POST;
+pub use places::PRE;
+pub use places::Places;
+pub use places::ST;
+pub use places::Slot;
+pub use places::WB;
+pub use places::all_left;
+pub use places::fetched;
+pub use places::in_stage;
+pub use places::start;
+pub use rules::cycle;
+pub use runs::Ran;
+pub use runs::bound;
+pub use runs::finish;
+pub use runs::run;
+pub use settlings::Times;
+pub use settlings::best;
+pub use settlings::bounds;
+pub use settlings::settle;
+pub use settlings::unknowns;
+pub use settlings::worst;
+pub use trace::MOST;
+pub use trace::Trace;
+pub use trace::read;
+pub use trace::size;

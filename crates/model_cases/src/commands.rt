@@ -1,0 +1,153 @@
+// A case to a line: the letter says what is asked of the bytes.
+use super::chart;
+use super::input::byte;
+use super::input::find;
+use super::input::parse;
+use super::output::field;
+use super::output::last;
+use super::output::text;
+ghost use Prim.Native.Nat.{_<_};
+
+pub fn lines(s: &[u8]) {
+    let mut at = 0;
+    while at < s.len() {
+        let end = find(s, at, b'\n');
+        line(&s[at..end]);
+        if end == s.len() {
+            return;
+        }
+        at = end + 1;
+    }
+}
+
+fn line(s: &[u8]) {
+    let mut bytes = [0u8; 160];
+    let colon = find(s, 0, b':');
+    if colon < 2 {
+        return;
+    }
+    let n = parse(&s[colon..], &mut bytes);
+    text(&s[2..colon]);
+    asked(byte(s, 0), &bytes[..n]);
+}
+
+fn asked(letter: u8, bytes: &[u8]) {
+    if letter == b'T' {
+        return time(bytes);
+    }
+    if letter == b'S' {
+        return times(bytes);
+    }
+    if letter == b'R' {
+        return refusals(bytes);
+    }
+    if letter == b'L' {
+        return leaving(bytes);
+    }
+    if letter == b'O' {
+        return open(bytes);
+    }
+    if letter == b'W' {
+        return write(bytes);
+    }
+    if letter == b'C' {
+        return chart::of_file(bytes);
+    }
+    text(b": no such letter\n");
+}
+
+// T: the finishing time of a settled body.
+fn time(body: &[u8]) {
+    field(b": refusal ", model::settled_refusal(body));
+    last(b" time ", model::finish(model::read(body)));
+}
+
+// S: the times over all settlings.
+fn times(body: &[u8]) {
+    let times = model::bounds(model::read(body));
+    field(b": refusal ", model::body_refusal(body));
+    field(b" best ", times.best);
+    last(b" worst ", times.worst);
+}
+
+// R: a body's refusals.
+fn refusals(body: &[u8]) {
+    field(b": refusal ", model::body_refusal(body));
+    last(b" settled ", model::settled_refusal(body));
+}
+
+// The least number of cycles from the start after which instruction i is in post.
+fn leaves(body: &[u8], i: usize) -> u32
+    requires { ⌜ i < 16 ⌝ }
+{
+    let t = model::read(body);
+    let most = model::bound(t);
+    let mut cycles: u32 = 0;
+    while cycles < most {
+        let places = model::run(t, cycles).places;
+        if places.stage[i] == model::POST {
+            return cycles;
+        }
+        cycles += 1;
+    }
+    most
+}
+
+// L: when the first two instructions leave.
+fn leaving(body: &[u8]) {
+    field(b": the first leaves at ", leaves(body, 0));
+    last(b", the second at ", leaves(body, 1));
+}
+
+// O: a trace's number, and a job file.
+fn open(bytes: &[u8]) {
+    if bytes.len() == 0 {
+        return;
+    }
+    let opened = model::open(&bytes[1..], byte(bytes, 0) as u32);
+    field(b": refusal ", opened.refusal);
+    text(b" start ");
+    io::print_decimal(1, opened.start as u64);
+    text(b" length ");
+    io::print_decimal(1, opened.length as u64);
+    text(b"\n");
+}
+
+fn wide(b: u8) -> u16
+    ensures { λ r. ⌜ r < 256 ⌝ }
+{
+    b as u16
+}
+
+fn pair(s: &[u8], at: usize) -> u16
+    requires { ⌜ at < 16 ⌝ }
+{
+    wide(byte(s, at)) + 256 * wide(byte(s, at + 1))
+}
+
+// W: how many of two counts there are, the two, the output's length, and the records.
+fn write(bytes: &[u8]) {
+    if bytes.len() < 7 {
+        return;
+    }
+    last(
+        b": refusal ",
+        written(
+            byte(bytes, 0),
+            pair(bytes, 1),
+            pair(bytes, 3),
+            &bytes[7..],
+            pair(bytes, 5) as usize,
+        ),
+    );
+}
+
+fn written(counts: u8, first: u16, second: u16, records: &[u8], room: usize) -> u32 {
+    if counts == 0 {
+        return model::write_refusal(&[], records, room);
+    }
+    if counts == 1 {
+        return model::write_refusal(&[first], records, room);
+    }
+    model::write_refusal(&[first, second], records, room)
+}

@@ -1,0 +1,17 @@
+// Runs cases through the second model and prints a line of what it finds for each: the document's
+// worked cases, which stand in the file `stdin`, and those that are long or go by a rule. The file
+// `stdout` has what the document says.
+mod chart;
+mod commands;
+mod input;
+mod long;
+mod output;
+mod rows;
+
+fn main() {
+    let mut buf = io::large_buffer();
+    let n = io::read_full(0, &mut buf);
+    commands::lines(&buf[..n]);
+    rows::all();
+    long::all();
+}
