@@ -1,0 +1,61 @@
+-- `random::print::refusals` is safe and ends.
+use Prim.Native.Nat.{_-_, _≤_}
+use native.Mathlib.Omega.{arith}
+use Rattle.random.proofs.print.refusals.Statement.{statement}
+use Rattle.random.proofs.print.refusals.Tie as tie
+use Rattle.random.proofs.print.refusals.Reads as reads
+use Rattle.random.proofs.print.refusals.Lts as lts
+use Rattle.random.proofs.print.refusal_line.Reads as refusal-line-reads
+
+abbrev Inv-loop : tie.InvT-loop
+Inv-loop seen i₀ i = i ≤ 15
+
+abbrev μ-loop : tie.MeasureT-loop
+μ-loop seen i₀ i = 15 - i
+
+-- src/print.rt:39:5
+loop-holds : tie.Need-loop-holds Inv-loop μ-loop
+loop-holds c = omega arith
+
+-- src/print.rt:40:32
+mul-refusal-line : tie.Need-mul-refusal-line Inv-loop μ-loop
+mul-refusal-line c = omega arith
+
+-- src/print.rt:40:32
+array-read-refusal-line : tie.Need-array-read-refusal-line Inv-loop μ-loop
+array-read-refusal-line c = omega arith
+
+-- src/print.rt:40:9
+refusal-line-requires : tie.Need-refusal-line-requires Inv-loop μ-loop
+refusal-line-requires c κs = tt
+
+-- src/print.rt:41:9
+add-i : tie.Need-add-i Inv-loop μ-loop
+add-i c = omega arith
+
+-- src/print.rt:39:5
+loop-less : tie.Need-loop-less Inv-loop μ-loop
+loop-less c = omega arith
+
+-- src/print.rt:39:5
+loop-again : tie.Need-loop-again Inv-loop μ-loop
+loop-again c = omega arith
+
+-- src/print.rt:37:1
+returns : tie.Need-returns Inv-loop μ-loop
+returns c = tt
+
+pub refusals-spec : {M : Type 1} → statement M
+refusals-spec =
+    tie.close
+    (tie.spec
+    Inv-loop
+    μ-loop
+    loop-holds
+    mul-refusal-line
+    array-read-refusal-line
+    refusal-line-requires
+    add-i
+    loop-less
+    loop-again
+    returns)

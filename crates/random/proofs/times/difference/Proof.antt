@@ -1,0 +1,20 @@
+-- `random::times::difference` is safe: the difference of two numbers of 32 bits fits 64 signed bits. Assumes nothing.
+use Rattle.timing.proofs.Difference.{difference-fits}
+use native.Mathlib.Omega.{arith}
+use Rattle.random.proofs.times.difference.Statement.{statement}
+use Rattle.random.proofs.times.difference.Tie as tie
+
+cast-result : tie.Need-cast-result
+cast-result c = omega arith
+
+cast-result-2 : tie.Need-cast-result-2
+cast-result-2 c = omega arith
+
+sub-result : tie.Need-sub-result
+sub-result c = difference-fits _ _ (c .fits .a .fits) (c .fits .b .fits)
+
+returns : tie.Need-returns
+returns c = tt
+
+pub difference-spec : {M : Type 1} → statement M
+difference-spec = tie.close (tie.spec cast-result cast-result-2 sub-result returns)

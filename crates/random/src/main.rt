@@ -1,0 +1,83 @@
+// Random traces: the engine's calls against the second model, from a fixed seed.
+mod dice;
+mod files;
+mod pairs;
+mod print;
+mod refusals;
+mod rows;
+mod tally;
+mod times;
+mod traces;
+mod turns;
+
+use dice::Dice;
+use dice::SEED;
+use files::long_ones_agree;
+use libc::STDOUT_FILENO;
+use print::print;
+use tally::Tally;
+use tally::more;
+use tally::nothing;
+use traces::Style;
+use traces::trace;
+use turns::file_turn;
+use turns::long_turn;
+use turns::refusal_turn;
+use turns::settled_turn;
+use turns::unknown_turn;
+
+const TRACES: u64 = 40000;
+
+struct Turn {
+    dice: Dice,
+    tally: Tally,
+}
+
+// Of the traces every fourth has unknown flags, and a few have the longest latencies.
+fn one_more(before: Turn, k: u64) -> Turn {
+    let mut tally = before.tally;
+    tally.traces = more(tally.traces, 1);
+    let long = k % 4001 == 0;
+    let unknown = k % 4 == 3 && !long;
+    let flags = if unknown { 3 } else { 2 };
+    let style = Style { flags, long };
+    let draft = trace(before.dice, style);
+    let timed = if long {
+        long_turn(draft, tally)
+    } else if unknown {
+        unknown_turn(draft, tally)
+    } else {
+        settled_turn(draft, tally)
+    };
+    let dice = draft.dice;
+    let after = refusal_turn(draft, file_turn(draft, timed));
+    Turn { dice, tally: after }
+}
+
+// It stops at the first trace at which the two differ.
+fn all_turns() -> Tally {
+    let dice = Dice { state: SEED };
+    let tally = nothing();
+    let mut t = Turn { dice, tally };
+    let mut k = 0;
+    while k < TRACES {
+        t = one_more(t, k);
+        if t.tally.wrong != 0 {
+            let differing = t.tally;
+            return differing;
+        }
+        k += 1;
+    }
+    let all = t.tally;
+    all
+}
+
+fn main() {
+    print(all_turns());
+    if long_ones_agree() {
+        io::write_all(
+            STDOUT_FILENO,
+            b"and on what is too long to open or to write\n",
+        );
+    }
+}

@@ -1,0 +1,182 @@
+// One trace after the other, each held against the model in every way.
+use crate::dice::Dice;
+use crate::dice::part;
+use crate::dice::rolled;
+use crate::files::File;
+use crate::files::broken;
+use crate::files::damaged;
+use crate::files::file_agrees;
+use crate::files::first;
+use crate::files::refusal_at;
+use crate::files::written;
+use crate::pairs::added;
+use crate::pairs::ordered;
+use crate::pairs::slower;
+use crate::refusals::refusals_agree;
+use crate::rows::rows;
+use crate::tally::Tally;
+use crate::tally::held;
+use crate::tally::more;
+use crate::tally::seen;
+use crate::times::bounds_agree;
+use crate::times::finish_agrees;
+use crate::times::likeness_agrees;
+use crate::times::margin_agrees;
+use crate::traces::Draft;
+ghost use Prim.Native.Nat.{_<_};
+
+pub fn length_of(draft: Draft) -> usize {
+    if draft.n < 13 { 10 * draft.n } else { 0 }
+}
+
+// Every row and the finishing time of a trace without unknown flags.
+fn rows_turn(body: &[u8], tally: Tally) -> Tally {
+    let time = model::finish(model::read(body));
+    let seen = rows(body, time);
+    let mut t = held(held(tally, finish_agrees(body, time)), seen.agree);
+    t.finishes = more(t.finishes, 1);
+    t.rows = more(t.rows, seen.compared as u64);
+    t.steps = more(t.steps, seen.compared as u64);
+    t
+}
+
+// A deadline about the worst time.
+fn near(worst: u32, slack: u32) -> u32
+    requires { ⌜ slack < 65536 ⌝ }
+{
+    if worst > 2 {
+        if worst < 1000000000 {
+            return worst - 2 + slack;
+        }
+    }
+    slack
+}
+
+// Margins about the worst time, with their sign.
+fn margin_turn(body: &[u8], worst: u32, d: Dice, tally: Tally) -> Tally {
+    let deadline = near(worst, part(d, 7, 5));
+    let mut t = held(tally, margin_agrees(body, worst, deadline));
+    t.margins = more(t.margins, 1);
+    t
+}
+
+// The order and, where only latencies differ, the sum bound; likeness of the two.
+fn pair_turn(body: &[u8], second: &[u8], flags: bool, tally: Tally) -> Tally {
+    let a = model::read(body);
+    let b = model::read(second);
+    let early = model::finish(a);
+    let late = model::finish(b);
+    let order = early <= late && ordered(a, b, late);
+    let sum = flags || late as u64 <= more(early as u64, added(a, b));
+    let mut t = held(
+        held(held(tally, order), sum),
+        likeness_agrees(body, second, early == late),
+    );
+    t.pairs = more(t.pairs, 1);
+    t.sums = more(t.sums, if flags { 0 } else { 1 });
+    t.likes = more(t.likes, 1);
+    t
+}
+
+pub fn settled_turn(draft: Draft, tally: Tally) -> Tally {
+    let n = length_of(draft);
+    let bytes = draft.bytes;
+    let whole: &[u8] = &bytes;
+    let body = first(whole, n);
+    let flags = part(draft.dice, 4, 2) == 0;
+    let later = slower(draft, flags);
+    let other = later.bytes;
+    let all: &[u8] = &other;
+    let second = first(all, n);
+    let t = rows_turn(second, rows_turn(body, tally));
+    let worst = model::finish(model::read(second));
+    margin_turn(second, worst, draft.dice, pair_turn(body, second, flags, t))
+}
+
+// One trace with a latency of 65,535 somewhere, whose rows are many.
+pub fn long_turn(draft: Draft, tally: Tally) -> Tally {
+    let n = length_of(draft);
+    let bytes = draft.bytes;
+    let whole: &[u8] = &bytes;
+    rows_turn(first(whole, n), tally)
+}
+
+fn settlings_of(unknown: u32) -> u64 {
+    if unknown > 6 { 0 } else { 1u64 << unknown }
+}
+
+// Best and worst against all settlings, where there are at most 64.
+pub fn unknown_turn(draft: Draft, tally: Tally) -> Tally {
+    let n = length_of(draft);
+    let bytes = draft.bytes;
+    let whole: &[u8] = &bytes;
+    let body = first(whole, n);
+    let trace = model::read(body);
+    let unknown = model::unknowns(trace);
+    if unknown > 6 {
+        return tally;
+    }
+    let times = model::bounds(trace);
+    let mut t = held(tally, bounds_agree(body, times.best, times.worst));
+    t.bounds = more(t.bounds, 1);
+    t.settlings = more(t.settlings, settlings_of(unknown));
+    margin_turn(body, times.worst, draft.dice, t)
+}
+
+// A job file of the trace as it was written.
+fn opened_turn(file: &[u8], tally: Tally) -> Tally {
+    let mut t = held(seen(tally, refusal_at(file, 3)), file_agrees(file));
+    t.files = more(t.files, 1);
+    t
+}
+
+fn damaged_turn(file: &[u8], tally: Tally) -> Tally {
+    let mut t = held(seen(tally, refusal_at(file, 0)), file_agrees(file));
+    t.damaged = more(t.damaged, 1);
+    t
+}
+
+// The file, whole and damaged.
+fn both_turns(file: File, d: Dice, tally: Tally) -> Tally {
+    let good = file.bytes;
+    let all: &[u8] = &good;
+    let t = opened_turn(first(all, file.length), tally);
+    let hurt = damaged(file, rolled(d));
+    let bad = hurt.bytes;
+    let rest: &[u8] = &bad;
+    damaged_turn(first(rest, hurt.length), t)
+}
+
+// A job file of the trace; where Write refuses there is none.
+pub fn file_turn(draft: Draft, tally: Tally) -> Tally {
+    let n = length_of(draft);
+    let bytes = draft.bytes;
+    let whole: &[u8] = &bytes;
+    let file = written(first(whole, n), draft.n, draft.dice);
+    let t = held(seen(seen(tally, file.refusal), file.short), file.agree);
+    if file.refusal != 0 {
+        return t;
+    }
+    both_turns(file, draft.dice, t)
+}
+
+fn broken_turn(body: &[u8], lawful: &[u8], tally: Tally) -> Tally {
+    let number = model::settled_refusal(body);
+    let mut t = held(seen(tally, number), refusals_agree(body, lawful));
+    t.refusals = more(t.refusals, 1);
+    t
+}
+
+// The refusals of a body that may be broken, by every call that takes one and by Write.
+pub fn refusal_turn(draft: Draft, tally: Tally) -> Tally {
+    let n = length_of(draft);
+    let bytes = draft.bytes;
+    let whole: &[u8] = &bytes;
+    let hurt = broken(draft, rolled(rolled(draft.dice)));
+    let bad = hurt.bytes;
+    let all: &[u8] = &bad;
+    let body = first(all, hurt.length);
+    let t = broken_turn(body, first(whole, n), tally);
+    let file = written(body, hurt.length / 10, draft.dice);
+    held(seen(t, file.refusal), file.agree)
+}
