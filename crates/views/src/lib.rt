@@ -1,0 +1,43 @@
+// View: a checked body carried along, and the fields of its instructions.
+ghost use mathlib.Core.Path.{_≡_};
+ghost use Rattle.record.specs.Body.{bodyRefusal, readAnswer};
+ghost use Rattle.views.specs.View.{viewBody};
+use record::Read;
+use record::body_refusal;
+use record::fields_at;
+
+// A refusal's number and an empty part, or 0 and the body.
+#[repr(C)]
+pub struct View<'a> {
+    pub refusal: u32,
+    pub body: &'a [u8],
+}
+
+// The body, or none of it where it was refused.
+fn kept(body: &[u8], refusal: u32) -> &[u8]
+    requires { ⌜ refusal ≡ bodyRefusal (now body) ⌝ }
+    ensures { λ r. ⌜ now r ≡ viewBody (now (body .entry)) ⌝ }
+{
+    if refusal != 0 {
+        return &body[..0];
+    }
+    body
+}
+
+pub fn make_view<'a>(body: &'a [u8]) -> View<'a>
+    ensures { λ r. ⌜ (r .refusal ≡ bodyRefusal (now (body .entry))) × (now (r .body) ≡ viewBody (now (body .entry))) ⌝ }
+{
+    let refusal = body_refusal(body);
+    let part = kept(body, refusal);
+    View {
+        refusal,
+        body: part,
+    }
+}
+
+// The fields of instruction k as the bytes stand, whatever they are.
+pub fn record_at<'a>(v: View<'a>, k: u32) -> Read
+    ensures { λ r. ⌜ r ≡ readAnswer (now (v .entry .body)) k ⌝ }
+{
+    fields_at(v.body, k)
+}
