@@ -28,4 +28,5 @@ fn main() {
     astray();
     times::longest();
     runs::long_run();
+    runs::steps_in_place();
 }

@@ -4,9 +4,14 @@ use crate::build::most_of;
 use crate::build::part;
 use crate::build::plain;
 use crate::build::record_of;
+use crate::build::registers;
 use crate::build::two_of;
 use crate::report::Tally;
+use inplace::advanced;
+use machine::Slot;
+use machine::State;
 use pipeline::run;
+use pipeline::step;
 use record::Fields;
 
 fn runs(only: Fields, n: usize, limit: u32, cycles: u32, left: bool) -> bool {
@@ -77,4 +82,41 @@ fn last_leaves(body: &[u8]) -> Tally {
 pub fn long_run() {
     let body = most_of(memory(1, 1, 65535));
     last_leaves(&body).line(b"long run");
+}
+
+fn same_slot(a: Slot, b: Slot) -> bool {
+    a.filled == b.filled && a.index == b.index && a.count == b.count
+}
+
+fn same_state(a: State, b: State) -> bool {
+    let front = same_slot(a.IF, b.IF) && same_slot(a.ID, b.ID) && same_slot(a.EX, b.EX);
+    let back = same_slot(a.MEM, b.MEM) && same_slot(a.ST, b.ST) && same_slot(a.WB, b.WB);
+    a.fetched == b.fetched && front && back
+}
+
+// One cycle in the caller's own storage gives what the step by value gives.
+fn in_place(body: &[u8], s: State) -> bool {
+    let stepped = step(body, s);
+    let advanced = advanced(s, body);
+    stepped.refusal == advanced.refusal && same_state(stepped.state, advanced.state)
+}
+
+// D from each of its rows, and refusals, which give the state back.
+fn places_in_place(body: &[u8], n: usize) -> Tally {
+    let mut tally = Tally::new();
+    let mut t = 0;
+    while t < 10 {
+        let ran = run(body, t);
+        tally = tally.and(in_place(body, ran.state));
+        tally = tally.and(in_place(part(body, n), ran.state));
+        t += 1;
+    }
+    tally
+}
+
+pub fn steps_in_place() {
+    let into = registers(memory(1, 0, 1), 0, 0, 1);
+    let body = two_of(into, registers(plain(), 1, 0, 2));
+    places_in_place(&body, 10).line(b"a step in place");
+    places_in_place(&body, 9).line(b"a refused step in place");
 }

@@ -1,0 +1,175 @@
+//! The proved timing engine of the strictly in-order core: slices in, `Result<_, Refusal>` out.
+mod raw;
+mod refusal;
+
+use refusal::answer;
+pub use refusal::Refusal;
+
+/// The most instructions that a trace has.
+pub const MAX_INSTRUCTIONS: usize = 4096;
+/// The most bytes that a job file has.
+pub const MAX_FILE_BYTES: usize = 65536;
+/// The bytes of a record.
+pub const RECORD_SIZE: usize = 10;
+const CHART_BYTES: usize = 143201;
+
+/// A stage's slot; an empty one has index and count 0.
+#[derive(Clone, Copy, Debug, Default, PartialEq, Eq)]
+#[repr(C)]
+pub struct Slot {
+    pub filled: bool,
+    pub index: u32,
+    pub count: u32,
+}
+
+/// The pipeline: how many instructions are fetched, and the slots of the stages.
+#[allow(non_snake_case)]
+#[derive(Clone, Copy, Debug, PartialEq, Eq)]
+#[repr(C)]
+pub struct State {
+    pub fetched: u32,
+    pub IF: Slot,
+    pub ID: Slot,
+    pub EX: Slot,
+    pub MEM: Slot,
+    pub ST: Slot,
+    pub WB: Slot,
+}
+
+impl State {
+    /// Everything in pre.
+    pub fn start() -> State {
+        unsafe { raw::sic_start() }
+    }
+
+    /// One cycle on, in place; a refusal leaves the state as it is.
+    pub fn advance(&mut self, body: &[u8]) -> Result<(), Refusal> {
+        answer(unsafe { raw::sic_advance(self, body.as_ptr(), body.len()) }, ())
+    }
+}
+
+impl Default for State {
+    fn default() -> State {
+        State::start()
+    }
+}
+
+/// The nine fields of a record, as its bytes stand.
+#[derive(Clone, Copy, Debug, PartialEq, Eq)]
+#[repr(C)]
+pub struct Record {
+    pub kind: u32,
+    pub fetch: u32,
+    pub access: u32,
+    pub source1: u32,
+    pub source2: u32,
+    pub target: u32,
+    pub execution: u32,
+    pub fetch_latency: u32,
+    pub data_latency: u32,
+}
+
+/// What a run gives.
+#[derive(Clone, Copy, Debug, PartialEq, Eq)]
+pub struct Run {
+    pub state: State,
+    pub cycles: u32,
+    pub left: bool,
+}
+
+/// The least and the greatest finishing time over all settlings.
+#[derive(Clone, Copy, Debug, PartialEq, Eq)]
+pub struct Times {
+    pub best: u32,
+    pub worst: u32,
+}
+
+/// A body that was checked, and its records.
+#[derive(Clone, Copy, Debug)]
+pub struct View<'a> {
+    body: &'a [u8],
+}
+
+impl<'a> View<'a> {
+    /// Refuses 10, 8.
+    pub fn new(body: &'a [u8]) -> Result<View<'a>, Refusal> {
+        answer(unsafe { raw::sic_check(body.as_ptr(), body.len()) }, View { body })
+    }
+
+    /// How many instructions the body has.
+    pub fn len(&self) -> usize {
+        self.body.len() / RECORD_SIZE
+    }
+
+    pub fn is_empty(&self) -> bool {
+        self.len() == 0
+    }
+
+    /// The fields of instruction k. Refuses 9.
+    pub fn record(&self, k: u32) -> Result<Record, Refusal> {
+        record_at(self.body, k)
+    }
+}
+
+/// The fields of instruction k of any bytes, as they stand. Refuses 9.
+pub fn record_at(body: &[u8], k: u32) -> Result<Record, Refusal> {
+    let read = unsafe { raw::sic_record(body.as_ptr(), body.len(), k) };
+    answer(read.refusal, read.fields)
+}
+
+/// A trace's body as a part of its file. Refuses 1 to 9.
+pub fn open(file: &[u8], trace: u32) -> Result<&[u8], Refusal> {
+    let part = unsafe { raw::sic_open(file.as_ptr(), file.len(), trace) };
+    answer(part.refusal, ())?;
+    Ok(&file[part.start..part.start + part.length])
+}
+
+/// Makes a job file of counts and joined records in `out`; its length. Refuses 3, 5, 13, 1, 8, 14.
+pub fn write(counts: &[u16], records: &[u8], out: &mut [u8]) -> Result<usize, Refusal> {
+    let written = unsafe { raw::sic_write(counts.as_ptr(), counts.len(), records.as_ptr(), records.len(), out.as_mut_ptr(), out.len()) };
+    answer(written.refusal, written.length as usize)
+}
+
+/// The state one cycle on. Refuses 10, 8, 11, 12.
+pub fn step(body: &[u8], state: State) -> Result<State, Refusal> {
+    let stepped = unsafe { raw::sic_step(body.as_ptr(), body.len(), state) };
+    answer(stepped.refusal, stepped.state)
+}
+
+/// At most `limit` cycles from the start. Refuses 10, 8, 11.
+pub fn run(body: &[u8], limit: u32) -> Result<Run, Refusal> {
+    let ran = unsafe { raw::sic_run(body.as_ptr(), body.len(), limit) };
+    answer(ran.refusal, Run { state: ran.state, cycles: ran.cycles, left: ran.left })
+}
+
+/// The finishing time. Refuses 10, 8, 11.
+pub fn finish(body: &[u8]) -> Result<u32, Refusal> {
+    let finished = unsafe { raw::sic_finish(body.as_ptr(), body.len()) };
+    answer(finished.refusal, finished.time)
+}
+
+/// The least and the greatest finishing time over all settlings. Refuses 10, 8.
+pub fn best_worst(body: &[u8]) -> Result<Times, Refusal> {
+    let times = unsafe { raw::sic_best_worst(body.as_ptr(), body.len()) };
+    answer(times.refusal, Times { best: times.best, worst: times.worst })
+}
+
+/// Deadline minus worst time; 0 is met exactly. Refuses 10, 8.
+pub fn margin(body: &[u8], deadline: u32) -> Result<i64, Refusal> {
+    let slack = unsafe { raw::sic_margin(body.as_ptr(), body.len(), deadline) };
+    answer(slack.refusal, slack.margin)
+}
+
+/// Whether the finishing times are equal. Refuses 10, 8, 11 of the first, then of the second.
+pub fn alike(first: &[u8], second: &[u8]) -> Result<bool, Refusal> {
+    let likeness = unsafe { raw::sic_alike(first.as_ptr(), first.len(), second.as_ptr(), second.len()) };
+    answer(likeness.refusal, likeness.alike)
+}
+
+/// The chart of a job file's first trace, or the line that tells its refusal.
+pub fn chart(file: &[u8]) -> String {
+    let mut text = vec![0; CHART_BYTES];
+    let length = unsafe { raw::sic_chart(file.as_ptr(), file.len(), text.as_mut_ptr(), text.len()) };
+    text.truncate(length);
+    String::from_utf8(text).expect("ASCII")
+}

@@ -1,0 +1,76 @@
+//! The functions of include/sic.h as they cross.
+use crate::{Record, State};
+
+#[repr(C)]
+pub struct Part {
+    pub refusal: u32,
+    pub start: usize,
+    pub length: usize,
+}
+
+#[repr(C)]
+pub struct Written {
+    pub refusal: u32,
+    pub length: u32,
+}
+
+#[repr(C)]
+pub struct Read {
+    pub refusal: u32,
+    pub fields: Record,
+}
+
+#[repr(C)]
+pub struct Stepped {
+    pub refusal: u32,
+    pub state: State,
+}
+
+#[repr(C)]
+pub struct Ran {
+    pub refusal: u32,
+    pub state: State,
+    pub cycles: u32,
+    pub left: bool,
+}
+
+#[repr(C)]
+pub struct Finished {
+    pub refusal: u32,
+    pub time: u32,
+}
+
+#[repr(C)]
+pub struct BestWorst {
+    pub refusal: u32,
+    pub best: u32,
+    pub worst: u32,
+}
+
+#[repr(C)]
+pub struct DeadlineMargin {
+    pub refusal: u32,
+    pub margin: i64,
+}
+
+#[repr(C)]
+pub struct Likeness {
+    pub refusal: u32,
+    pub alike: bool,
+}
+
+extern "C" {
+    pub fn sic_open(file: *const u8, file_length: usize, trace: u32) -> Part;
+    pub fn sic_write(counts: *const u16, traces: usize, records: *const u8, records_length: usize, out: *mut u8, out_length: usize) -> Written;
+    pub fn sic_check(body: *const u8, body_length: usize) -> u32;
+    pub fn sic_record(body: *const u8, body_length: usize, k: u32) -> Read;
+    pub fn sic_start() -> State;
+    pub fn sic_step(body: *const u8, body_length: usize, state: State) -> Stepped;
+    pub fn sic_advance(state: *mut State, body: *const u8, body_length: usize) -> u32;
+    pub fn sic_run(body: *const u8, body_length: usize, limit: u32) -> Ran;
+    pub fn sic_finish(body: *const u8, body_length: usize) -> Finished;
+    pub fn sic_best_worst(body: *const u8, body_length: usize) -> BestWorst;
+    pub fn sic_margin(body: *const u8, body_length: usize, deadline: u32) -> DeadlineMargin;
+    pub fn sic_alike(first: *const u8, first_length: usize, second: *const u8, second_length: usize) -> Likeness;
+    pub fn sic_chart(file: *const u8, file_length: usize, out: *mut u8, out_length: usize) -> usize;
+}

@@ -1,0 +1,155 @@
+//! The worked cases and every refusal through the library for other languages.
+mod simulator;
+
+use sic::{Refusal, State};
+use simulator::*;
+
+fn plain() -> Instruction {
+    Instruction { kind: 0, fetch: HIT, access: HIT, source1: 0, source2: 0, target: 0, execution: 0, fetch_latency: 1, data_latency: 0 }
+}
+
+fn memory(kind: u8, access: u8, latency: u16) -> Instruction {
+    Instruction { kind, access, data_latency: latency, ..plain() }
+}
+
+fn number<T: std::fmt::Debug>(r: Result<T, Refusal>) -> u32 {
+    r.err().map_or(0, Refusal::number)
+}
+
+#[test]
+fn a_to_l() {
+    let load = memory(LOAD, MISS, 10);
+    let hit = memory(LOAD, HIT, 1);
+    let store = memory(STORE, MISS, 10);
+    let late = |latency| Instruction { fetch: MISS, fetch_latency: latency, ..plain() };
+    let cases: [(&str, Vec<Instruction>, u32); 11] = [
+        ("A", vec![], 0),
+        ("B", vec![plain()], 6),
+        ("C", vec![load], 16),
+        ("D", vec![Instruction { target: 1, ..hit }, Instruction { source1: 1, target: 2, ..plain() }], 8),
+        ("E", vec![Instruction { kind: BRANCH, ..plain() }, plain()], 9),
+        ("F", vec![hit, late(10)], 20),
+        ("G", vec![load, plain()], 17),
+        ("H", vec![load, late(1)], 21),
+        ("I", vec![store], 15),
+        ("J", vec![store, store], 26),
+        ("K", vec![store, memory(STORE, HIT, 1)], 16),
+    ];
+    for (name, trace, time) in cases {
+        assert_eq!(sic::finish(&encode(&trace)), Ok(time), "{name}");
+        assert_eq!(finish(&trace), time, "{name}");
+    }
+    let l = [memory(LOAD, UNKNOWN, 10), Instruction { fetch: UNKNOWN, ..plain() }];
+    assert_eq!(sic::best_worst(&encode(&l)), Ok(sic::Times { best: 7, worst: 21 }));
+}
+
+#[test]
+fn margins_and_limits_of_b() {
+    let b = encode(&[plain()]);
+    for (deadline, margin) in [(5, -1), (6, 0), (7, 1), (0, -6), (u32::MAX, 4294967289)] {
+        assert_eq!(sic::margin(&b, deadline), Ok(margin));
+    }
+    for (limit, cycles, left) in [(0, 0, false), (5, 5, false), (6, 6, true), (7, 6, true), (u32::MAX, 6, true)] {
+        let run = sic::run(&b, limit).unwrap();
+        assert_eq!((run.cycles, run.left), (cycles, left));
+    }
+}
+
+#[test]
+fn refusals_of_bodies() {
+    let good = encode(&[plain(), memory(LOAD, MISS, 3)]);
+    let unknown = encode(&[memory(LOAD, UNKNOWN, 3)]);
+    let mut broken = good.clone();
+    broken[0] = 4;
+    let long = vec![0; 40970];
+    for (body, checked, settled) in [(&good, 0, 0), (&unknown, 0, 11), (&broken, 8, 8), (&good[..19].to_vec(), 10, 10), (&long, 10, 10)] {
+        let mut state = State::start();
+        assert_eq!(number(sic::View::new(body)), checked);
+        assert_eq!(number(sic::best_worst(body)), checked);
+        assert_eq!(number(sic::margin(body, 7)), checked);
+        assert_eq!(number(sic::finish(body)), settled);
+        assert_eq!(number(sic::run(body, 7)), settled);
+        assert_eq!(number(sic::step(body, state)), settled);
+        assert_eq!(number(state.advance(body)), settled);
+        assert_eq!(number(sic::alike(body, &good)), settled);
+        assert_eq!(number(sic::alike(&good, body)), settled);
+    }
+    assert_eq!(number(sic::alike(&broken, &unknown)), 8);
+    assert_eq!(number(sic::alike(&unknown, &broken)), 11);
+}
+
+#[test]
+fn a_refused_step_keeps_the_state() {
+    let body = encode(&[plain()]);
+    let mut state = State { fetched: 2, ..State::start() };
+    let before = state;
+    assert_eq!(state.advance(&body), Err(Refusal::NotOrderly));
+    assert_eq!(state, before);
+    assert_eq!(number(sic::step(&body, state)), 12);
+}
+
+#[test]
+fn views_read_any_bytes() {
+    let bytes: Vec<u8> = (0..25).collect();
+    assert_eq!(number(sic::View::new(&bytes)), 10);
+    let read = sic::record_at(&bytes, 1).unwrap();
+    assert_eq!((read.kind, read.fetch, read.access, read.target), (10, 3, 2, 14));
+    assert_eq!((read.fetch_latency, read.data_latency), (16 + 17 * 256, 18 + 19 * 256));
+    assert_eq!(number(sic::record_at(&bytes, 2)), 9);
+    assert_eq!(number(sic::record_at(&[], 0)), 9);
+}
+
+#[test]
+fn files_at_their_borders() {
+    let file = write(&[1, 0, 2], &encode(&[plain(); 3]), 100).unwrap();
+    assert_eq!(sic::open(&file, 2).map(|b| b.len()), Ok(20));
+    assert_eq!(number(sic::open(&file, 3)), 9);
+    assert_eq!(number(sic::open(&vec![0; 65537], 0)), 1);
+    assert_eq!(number(sic::open(&[0], 0)), 2);
+    assert_eq!(number(sic::open(&[17, 0], 0)), 3);
+    assert_eq!(number(sic::open(&[1, 0, 8], 0)), 4);
+    assert_eq!(number(sic::open(&[1, 0, 8, 0, 0, 0, 1, 16], 0)), 5);
+    assert_eq!(number(sic::open(&[1, 0, 9, 0, 0, 0, 0, 0], 0)), 6);
+    assert_eq!(number(sic::open(&[0, 0, 0], 0)), 7);
+    assert_eq!(number(sic::open(&[0, 0], 0)), 9);
+    let mut broken = file.clone();
+    broken[20] = 4;
+    assert_eq!(number(sic::open(&broken, 9)), 8);
+}
+
+#[test]
+fn writing_at_its_borders() {
+    let records = encode(&[plain(); 3]);
+    let mut out = vec![7; 60];
+    assert_eq!(sic::write(&[1, 0, 2], &records, &mut out), Ok(50));
+    assert_eq!(out[..50], write(&[1, 0, 2], &records, 60).unwrap());
+    assert_eq!(out[50..], [7; 10]);
+    let kept = out.clone();
+    assert_eq!(number(sic::write(&[0; 17], &records, &mut out)), 3);
+    assert_eq!(number(sic::write(&[4097], &records, &mut out)), 5);
+    assert_eq!(number(sic::write(&[4], &records, &mut out)), 13);
+    assert_eq!(number(sic::write(&[4096, 2457], &vec![0; 65530], &mut out)), 1);
+    assert_eq!(number(sic::write(&[3], &[9; 30], &mut out)), 8);
+    assert_eq!(number(sic::write(&[1, 0, 2], &records, &mut out[..49])), 14);
+    assert_eq!(out, kept);
+}
+
+#[test]
+fn refusals_speak() {
+    assert_eq!(Refusal::of(0), None);
+    assert_eq!(Refusal::of(15), None);
+    for n in 1..=14 {
+        let refusal = Refusal::of(n).unwrap();
+        assert_eq!(refusal.number(), n);
+        assert!(refusal.to_string().starts_with(&format!("refused {n}: ")));
+    }
+}
+
+#[test]
+fn the_chart_of_d() {
+    let body = encode(&[Instruction { target: 1, ..memory(LOAD, HIT, 1) }, Instruction { source1: 1, target: 2, ..plain() }]);
+    let chart = sic::chart(&write(&[2], &body, 100).unwrap());
+    assert!(chart.starts_with("cycle IF ID EX MEM ST WB\n0 - - - - - -\n1 0:0 - - - - -\n"));
+    assert!(chart.ends_with("\n8 - - - - - -\nworst 8 best 8\n"));
+    assert_eq!(sic::chart(&[]), "refused 2\n");
+}

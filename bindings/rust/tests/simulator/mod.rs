@@ -1,0 +1,294 @@
+//! The cycle rules and the checks a third time, in plain Rust: each instruction has a stage and a
+//! count, every test looks at all older ones, and time goes cycle after cycle.
+#![allow(dead_code)]
+
+pub const LOAD: u8 = 1;
+pub const STORE: u8 = 2;
+pub const BRANCH: u8 = 3;
+pub const HIT: u8 = 0;
+pub const MISS: u8 = 1;
+pub const UNKNOWN: u8 = 2;
+
+#[derive(Clone, Copy, Debug, PartialEq, Eq)]
+pub struct Instruction {
+    pub kind: u8,
+    pub fetch: u8,
+    pub access: u8,
+    pub source1: u8,
+    pub source2: u8,
+    pub target: u8,
+    pub execution: u8,
+    pub fetch_latency: u16,
+    pub data_latency: u16,
+}
+
+impl Instruction {
+    pub fn bytes(&self) -> [u8; 10] {
+        let f = self.fetch_latency.to_le_bytes();
+        let d = self.data_latency.to_le_bytes();
+        [self.kind, self.fetch | self.access << 2, self.source1, self.source2, self.target, self.execution, f[0], f[1], d[0], d[1]]
+    }
+
+    fn read(b: &[u8]) -> Instruction {
+        Instruction {
+            kind: b[0],
+            fetch: b[1] & 3,
+            access: b[1] >> 2 & 3,
+            source1: b[2],
+            source2: b[3],
+            target: b[4],
+            execution: b[5],
+            fetch_latency: u16::from_le_bytes([b[6], b[7]]),
+            data_latency: u16::from_le_bytes([b[8], b[9]]),
+        }
+    }
+}
+
+pub fn encode(trace: &[Instruction]) -> Vec<u8> {
+    trace.iter().flat_map(|i| i.bytes()).collect()
+}
+
+pub fn decode(body: &[u8]) -> Vec<Instruction> {
+    body.chunks_exact(10).map(Instruction::read).collect()
+}
+
+fn lawful(b: &[u8]) -> bool {
+    let i = Instruction::read(b);
+    let memory = i.kind == LOAD || i.kind == STORE;
+    i.kind <= 3
+        && b[1] < 16
+        && i.fetch != 3
+        && i.access != 3
+        && (memory || i.access == HIT)
+        && i.source1 < 32
+        && i.source2 < 32
+        && i.target < 32
+        && (i.kind <= LOAD || i.target == 0)
+        && i.fetch_latency >= 1
+        && (i.data_latency >= 1) == memory
+}
+
+/// 10, 8, or 0.
+pub fn body_refusal(body: &[u8]) -> u32 {
+    if body.len() % 10 != 0 || body.len() > 40960 {
+        return 10;
+    }
+    if body.chunks_exact(10).all(lawful) { 0 } else { 8 }
+}
+
+/// 10, 8, 11, or 0.
+pub fn settled_refusal(body: &[u8]) -> u32 {
+    match body_refusal(body) {
+        0 if decode(body).iter().any(|i| i.fetch == UNKNOWN || i.access == UNKNOWN) => 11,
+        n => n,
+    }
+}
+
+#[derive(Clone, Copy, Debug, PartialEq, Eq, PartialOrd, Ord)]
+pub enum Stage {
+    Pre,
+    If,
+    Id,
+    Ex,
+    Mem,
+    St,
+    Wb,
+    Post,
+}
+use Stage::*;
+
+#[derive(Clone, Copy, Debug, PartialEq, Eq)]
+pub struct Place {
+    pub stage: Stage,
+    pub count: u32,
+}
+
+pub fn start(trace: &[Instruction]) -> Vec<Place> {
+    vec![Place { stage: Pre, count: 0 }; trace.len()]
+}
+
+fn short_of(p: Place, stage: Stage) -> bool {
+    p.stage < stage || p.stage == stage && p.count > 0
+}
+
+fn next(i: &Instruction, stage: Stage) -> Stage {
+    match stage {
+        Pre => If,
+        If => Id,
+        Id => Ex,
+        Ex => Mem,
+        Mem if i.kind == STORE => St,
+        Mem => Wb,
+        _ => Post,
+    }
+}
+
+fn entry(i: &Instruction, stage: Stage) -> u32 {
+    match stage {
+        If if i.fetch == MISS => i.fetch_latency as u32,
+        Ex => i.execution as u32,
+        Mem if i.kind == LOAD && i.access == MISS => i.data_latency as u32,
+        St if i.access == MISS => i.data_latency as u32 - 1,
+        _ => 0,
+    }
+}
+
+fn ready(trace: &[Instruction], places: &[Place], i: usize) -> bool {
+    let me = &trace[i];
+    let pending = |kind: u8, stage: Stage| (0..i).any(|j| trace[j].kind == kind && short_of(places[j], stage));
+    match places[i].stage {
+        Pre => {
+            (0..i).all(|j| places[j].stage != Pre) && !pending(BRANCH, Ex) && (me.fetch == HIT || !pending(LOAD, Mem) && !pending(STORE, St))
+        }
+        Id => !(0..i).any(|j| {
+            let to = trace[j].target;
+            trace[j].kind == LOAD && to != 0 && (to == me.source1 || to == me.source2) && short_of(places[j], Mem)
+        }),
+        Ex if me.access == MISS => !pending(STORE, St),
+        _ => true,
+    }
+}
+
+/// Whether each instruction moves, once it is asked for.
+struct Moving<'a> {
+    trace: &'a [Instruction],
+    places: &'a [Place],
+    known: Vec<Option<bool>>,
+}
+
+impl Moving<'_> {
+    fn moves(&mut self, i: usize) -> bool {
+        if let Some(known) = self.known[i] {
+            return known;
+        }
+        let p = self.places[i];
+        let goes = p.stage != Post && p.count == 0 && ready(self.trace, self.places, i) && self.will_be_free(next(&self.trace[i], p.stage));
+        self.known[i] = Some(goes);
+        goes
+    }
+
+    fn will_be_free(&mut self, stage: Stage) -> bool {
+        stage == Post || (0..self.trace.len()).all(|j| self.places[j].stage != stage || self.moves(j))
+    }
+}
+
+pub fn cycle(trace: &[Instruction], places: &[Place]) -> Vec<Place> {
+    let mut moving = Moving { trace, places, known: vec![None; trace.len()] };
+    let on = |i: usize| {
+        let p = places[i];
+        if moving.moves(i) {
+            let stage = next(&trace[i], p.stage);
+            Place { stage, count: entry(&trace[i], stage) }
+        } else {
+            Place { stage: p.stage, count: p.count.saturating_sub(1) }
+        }
+    };
+    (0..trace.len()).map(on).collect()
+}
+
+pub fn all_left(places: &[Place]) -> bool {
+    places.iter().all(|p| p.stage == Post)
+}
+
+/// Every row from the start to the first after which all have left.
+pub fn rows(trace: &[Instruction]) -> Vec<Vec<Place>> {
+    let mut rows = vec![start(trace)];
+    while !all_left(rows.last().unwrap()) {
+        let row = cycle(trace, rows.last().unwrap());
+        rows.push(row);
+    }
+    rows
+}
+
+pub fn finish(trace: &[Instruction]) -> u32 {
+    rows(trace).len() as u32 - 1
+}
+
+pub fn unknowns(trace: &[Instruction]) -> u32 {
+    trace.iter().map(|i| (i.fetch == UNKNOWN) as u32 + (i.access == UNKNOWN) as u32).sum()
+}
+
+/// The settling in which the unknown flags are misses where `choice` has a bit.
+pub fn settle(trace: &[Instruction], mut choice: u32) -> Vec<Instruction> {
+    let mut flag = |f: u8| {
+        if f != UNKNOWN {
+            return f;
+        }
+        let bit = choice & 1;
+        choice >>= 1;
+        bit as u8
+    };
+    trace.iter().map(|i| Instruction { fetch: flag(i.fetch), access: flag(i.access), ..*i }).collect()
+}
+
+/// What Open answers: the refusal, and where the body is.
+pub fn open(file: &[u8], trace: u32) -> Result<(usize, usize), u32> {
+    let half = |at: usize| u16::from_le_bytes([file[at], file[at + 1]]) as usize;
+    let word = |at: usize| u32::from_le_bytes([file[at], file[at + 1], file[at + 2], file[at + 3]]) as usize;
+    if file.len() > 65536 {
+        return Err(1);
+    }
+    if file.len() < 2 {
+        return Err(2);
+    }
+    let traces = half(0);
+    if traces > 16 {
+        return Err(3);
+    }
+    if file.len() < 2 + 6 * traces {
+        return Err(4);
+    }
+    let mut end = 2 + 6 * traces;
+    let mut bodies = Vec::new();
+    for t in 0..traces {
+        let at = 2 + 6 * t;
+        if half(at + 4) > 4096 {
+            return Err(5);
+        }
+        if word(at) != end {
+            return Err(6);
+        }
+        bodies.push((end, 10 * half(at + 4)));
+        end += 10 * half(at + 4);
+    }
+    if file.len() != end {
+        return Err(7);
+    }
+    if bodies.iter().any(|&(at, length)| body_refusal(&file[at..at + length]) == 8) {
+        return Err(8);
+    }
+    bodies.get(trace as usize).copied().ok_or(9)
+}
+
+/// What Write makes, or its refusal.
+pub fn write(counts: &[u16], records: &[u8], room: usize) -> Result<Vec<u8>, u32> {
+    let sum: usize = counts.iter().map(|&c| c as usize).sum();
+    let length = 2 + 6 * counts.len() + records.len();
+    if counts.len() > 16 {
+        return Err(3);
+    }
+    if counts.iter().any(|&c| c > 4096) {
+        return Err(5);
+    }
+    if records.len() != 10 * sum {
+        return Err(13);
+    }
+    if length > 65536 {
+        return Err(1);
+    }
+    if !records.chunks_exact(10).all(lawful) {
+        return Err(8);
+    }
+    if room < length {
+        return Err(14);
+    }
+    let mut file = (counts.len() as u16).to_le_bytes().to_vec();
+    let mut at = 2 + 6 * counts.len();
+    for &c in counts {
+        file.extend((at as u32).to_le_bytes());
+        file.extend(c.to_le_bytes());
+        at += 10 * c as usize;
+    }
+    file.extend(records);
+    Ok(file)
+}

@@ -1,0 +1,37 @@
+// Step and Run, and the starting state.
+ghost use mathlib.Core.Path.{_≡_};
+ghost use Rattle.machine.specs.State.{start};
+ghost use Rattle.pipeline.specs.Step.{stepAnswer};
+ghost use Rattle.pipeline.specs.Run.{runAnswer};
+use machine::State;
+use pipeline::Ran;
+use pipeline::Stepped;
+
+#[no_mangle]
+pub extern "C" fn sic_start() -> State
+    ensures { λ r. ⌜ r ≡ start ⌝ }
+{
+    State::start()
+}
+
+#[no_mangle]
+pub extern "C" fn sic_step(body: &[u8], s: State) -> Stepped
+    ensures { λ r. ⌜ r ≡ stepAnswer (now (body .entry)) s ⌝ }
+{
+    pipeline::step(body, s)
+}
+
+// Step in the caller's own storage: the state is stored, or stays on a refusal.
+#[no_mangle]
+pub extern "C" fn sic_advance(s: &mut State, body: &[u8]) -> u32
+    ensures { λ r. ⌜ (r ≡ stepAnswer (now (body .entry)) (now (s .entry)) .refusal) × (now (s .exit) ≡ stepAnswer (now (body .entry)) (now (s .entry)) .state) ⌝ }
+{
+    inplace::advance(s, body)
+}
+
+#[no_mangle]
+pub extern "C" fn sic_run(body: &[u8], limit: u32) -> Ran
+    ensures { λ r. ⌜ r ≡ runAnswer (now (body .entry)) limit ⌝ }
+{
+    pipeline::run(body, limit)
+}

@@ -1,0 +1,157 @@
+/* The timing engine of the strictly in-order core, for C.
+ *
+ * Link target/staticlib/libcapi.a, which `rt staticlib capi` proves and writes (x86-64 Linux).
+ *
+ * A slice is a pointer and a length in elements; an empty one has any pointer that is not null. Nothing
+ * is kept after a call: what is lent stays the caller's, and only `out` and `state` are written to. A
+ * call that declines gives its refusal number, zeros for numbers, false for a yes or no and an empty
+ * part, and leaves what was lent as it was. No call has a precondition on the bytes it is given.
+ */
+#ifndef SIC_H
+#define SIC_H
+
+#include <stdbool.h>
+#include <stddef.h>
+#include <stdint.h>
+
+#ifdef __cplusplus
+extern "C" {
+#endif
+
+/* The refusal numbers; 0 is none. */
+enum sic_refusal {
+    SIC_TOO_LONG = 1,         /* the file is longer than 65,536 bytes */
+    SIC_TOO_SHORT = 2,        /* the file is shorter than two bytes */
+    SIC_TOO_MANY_TRACES = 3,  /* more than 16 traces */
+    SIC_CUT_TABLE = 4,        /* the file ends within its table */
+    SIC_LARGE_COUNT = 5,      /* a trace of more than 4,096 instructions */
+    SIC_WRONG_OFFSET = 6,     /* an entry's offset is not where its body starts */
+    SIC_WRONG_END = 7,        /* the file does not end with its last body */
+    SIC_BROKEN_RECORD = 8,    /* a record breaks its rules */
+    SIC_OUT_OF_RANGE = 9,     /* no such trace, or no such instruction */
+    SIC_WRONG_LENGTH = 10,    /* the body is not ten bytes for each of at most 4,096 instructions */
+    SIC_UNKNOWN_FLAG = 11,    /* an unknown flag where every flag must be a hit or a miss */
+    SIC_NOT_ORDERLY = 12,     /* the state is not orderly */
+    SIC_WRONG_RECORDS = 13,   /* the records are not ten bytes for each instruction counted */
+    SIC_SHORT_OUTPUT = 14     /* the output is shorter than the file */
+};
+
+#define SIC_MAX_INSTRUCTIONS 4096
+#define SIC_MAX_FILE_BYTES 65536
+#define SIC_CHART_BYTES 143201
+
+/* A stage's slot: empty, with index and count 0, or an instruction and its remaining count. */
+typedef struct {
+    bool filled;
+    uint32_t index;
+    uint32_t count;
+} sic_slot;
+
+/* The pipeline: how many instructions are fetched, and the slots of the stages. */
+typedef struct {
+    uint32_t fetched;
+    sic_slot IF, ID, EX, MEM, ST, WB;
+} sic_state;
+
+/* A part of a file: its bytes from `start` on, `length` of them. */
+typedef struct {
+    uint32_t refusal;
+    size_t start;
+    size_t length;
+} sic_part;
+
+typedef struct {
+    uint32_t refusal;
+    uint32_t length;
+} sic_written;
+
+/* Kinds: 0 plain, 1 load, 2 store, 3 conditional branch. Flags: 0 hit, 1 miss, 2 unknown. */
+typedef struct {
+    uint32_t kind, fetch, access, source1, source2, target, execution, fetch_latency, data_latency;
+} sic_fields;
+
+typedef struct {
+    uint32_t refusal;
+    sic_fields fields;
+} sic_read;
+
+typedef struct {
+    uint32_t refusal;
+    sic_state state;
+} sic_stepped;
+
+/* `cycles` is the smaller of limit and finishing time; `left` whether all have left by then. */
+typedef struct {
+    uint32_t refusal;
+    sic_state state;
+    uint32_t cycles;
+    bool left;
+} sic_ran;
+
+typedef struct {
+    uint32_t refusal;
+    uint32_t time;
+} sic_finished;
+
+typedef struct {
+    uint32_t refusal;
+    uint32_t best;
+    uint32_t worst;
+} sic_times;
+
+/* Below 0 the deadline is missed; 0 is met exactly. */
+typedef struct {
+    uint32_t refusal;
+    int64_t margin;
+} sic_slack;
+
+typedef struct {
+    uint32_t refusal;
+    bool alike;
+} sic_likeness;
+
+/* Open: where trace `trace`'s body is in the file. 1 to 9, in this order. */
+sic_part sic_open(const uint8_t *file, size_t file_length, uint32_t trace);
+
+/* Write: the job file of the counts and the joined records, in `out`. 3, 5, 13, 1, 8, 14. */
+sic_written sic_write(const uint16_t *counts, size_t traces, const uint8_t *records, size_t records_length, uint8_t *out, size_t out_length);
+
+/* Whether a body may be viewed: 10, 8, or 0. */
+uint32_t sic_check(const uint8_t *body, size_t body_length);
+
+/* The fields of instruction k of any bytes, as they stand. 9. */
+sic_read sic_record(const uint8_t *body, size_t body_length, uint32_t k);
+
+/* Everything in pre. */
+sic_state sic_start(void);
+
+/* Step: the state one cycle on, or the state given. 10, 8, 11, 12. */
+sic_stepped sic_step(const uint8_t *body, size_t body_length, sic_state state);
+
+/* The same in the caller's own storage; the refusal number. */
+uint32_t sic_advance(sic_state *state, const uint8_t *body, size_t body_length);
+
+/* Run: at most `limit` cycles from the start. 10, 8, 11. */
+sic_ran sic_run(const uint8_t *body, size_t body_length, uint32_t limit);
+
+/* Finish: the finishing time. 10, 8, 11. */
+sic_finished sic_finish(const uint8_t *body, size_t body_length);
+
+/* Best and worst, over all settlings of the unknown flags. 10, 8. */
+sic_times sic_best_worst(const uint8_t *body, size_t body_length);
+
+/* Margin: deadline minus worst. 10, 8. */
+sic_slack sic_margin(const uint8_t *body, size_t body_length, uint32_t deadline);
+
+/* Alike: whether the finishing times are equal. 10, 8, 11 of the first, then of the second. */
+sic_likeness sic_alike(const uint8_t *first, size_t first_length, const uint8_t *second, size_t second_length);
+
+/* The chart of the file's first trace as text, or the line that tells the refusal; its length. An
+ * output of fewer than SIC_CHART_BYTES bytes stays as it is, and the length is 0. */
+size_t sic_chart(const uint8_t *file, size_t file_length, uint8_t *out, size_t out_length);
+
+#ifdef __cplusplus
+}
+#endif
+
+#endif
