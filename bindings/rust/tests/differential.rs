@@ -1,9 +1,10 @@
 //! The library against the simulator on random traces and damaged files, for SIC_SECONDS seconds
-//! (2 where it is not set), from a seed that is new each time unless SIC_SEED gives one.
+//! (5 where it is not set), on every processor, from a seed that is new each time unless SIC_SEED gives one.
 mod simulator;
 
 use sic::State;
 use simulator::*;
+use std::sync::atomic::{AtomicU64, Ordering};
 use std::time::{Duration, Instant, SystemTime, UNIX_EPOCH};
 
 struct Dice(u64);
@@ -54,26 +55,15 @@ impl Dice {
     }
 }
 
-/// The state that gives every instruction its place.
-fn state_of(places: &[Place]) -> State {
-    let mut s = State::start();
-    for (i, p) in places.iter().enumerate() {
-        let slot = match p.stage {
-            Stage::Pre => continue,
-            Stage::If => Some(&mut s.IF),
-            Stage::Id => Some(&mut s.ID),
-            Stage::Ex => Some(&mut s.EX),
-            Stage::Mem => Some(&mut s.MEM),
-            Stage::St => Some(&mut s.ST),
-            Stage::Wb => Some(&mut s.WB),
-            Stage::Post => None,
-        };
-        if let Some(slot) = slot {
-            *slot = sic::Slot { filled: true, index: i as u32, count: p.count };
-        }
-        s.fetched += 1;
-    }
-    s
+fn state_of(slots: &Slots) -> State {
+    let slot = |h: Held| h.map_or(sic::Slot::default(), |(i, count)| sic::Slot { filled: true, index: i as u32, count });
+    let [f, d, e, m, s, w] = slots.held.map(slot);
+    State { fetched: slots.fetched as u32, IF: f, ID: d, EX: e, MEM: m, ST: s, WB: w }
+}
+
+fn slots_in(s: &State) -> Slots {
+    let held = [s.IF, s.ID, s.EX, s.MEM, s.ST, s.WB].map(|slot| slot.filled.then_some((slot.index as usize, slot.count)));
+    Slots { fetched: s.fetched as usize, held }
 }
 
 fn rows_agree(trace: &[Instruction]) {
@@ -83,25 +73,72 @@ fn rows_agree(trace: &[Instruction]) {
     assert_eq!(sic::finish(&body), Ok(finish));
     let mut state = State::start();
     for (t, row) in rows.iter().enumerate() {
-        let expected = state_of(row);
+        let expected = state_of(&slots_of(row));
         let left = t as u32 == finish;
         assert_eq!(sic::run(&body, t as u32), Ok(sic::Run { state: expected, cycles: t as u32, left }));
         assert_eq!(state, expected);
-        assert_eq!(sic::step(&body, state), Ok(state_of(&cycle(trace, row))));
+        let next = rows.get(t + 1).unwrap_or(row);
+        assert_eq!(sic::step(&body, state), Ok(state_of(&slots_of(next))));
         state.advance(&body).unwrap();
     }
     assert_eq!(sic::run(&body, finish + 3).unwrap().cycles, finish);
 }
 
-fn bounds_agree(trace: &[Instruction], deadline: u32) {
+/// A state near one of a run: orderly or not, and mostly one that no run comes to.
+fn state_near(dice: &mut Dice, body: &[u8]) -> State {
+    let mut s = sic::run(body, dice.below(40) as u32).unwrap().state;
+    for _ in 0..1 + dice.below(3) {
+        let slots = [&mut s.IF, &mut s.ID, &mut s.EX, &mut s.MEM, &mut s.ST, &mut s.WB];
+        let slot = slots.into_iter().nth(dice.below(6) as usize).unwrap();
+        match dice.below(8) {
+            0 => s.fetched = s.fetched.wrapping_add(1),
+            1 => s.fetched = s.fetched.wrapping_sub(1),
+            2 => *slot = sic::Slot::default(),
+            3 => *slot = sic::Slot { filled: true, index: dice.below(15) as u32, count: 0 },
+            4 => slot.filled = !slot.filled,
+            5 => slot.index = [0, slot.index.wrapping_add(1), slot.index.wrapping_sub(1), u32::MAX][dice.below(4) as usize],
+            _ => slot.count = [0, 1, slot.count.wrapping_add(1), slot.count.wrapping_sub(1)][dice.below(4) as usize],
+        }
+    }
+    s
+}
+
+fn steps_agree(dice: &mut Dice, trace: &[Instruction]) {
+    let body = encode(trace);
+    let mut state = state_near(dice, &body);
+    let slots = slots_in(&state);
+    let expected = if state_of(&slots) == state && orderly(trace, &slots) {
+        Ok(state_of(&slots_of(&cycle(trace, &places_of(trace, &slots)))))
+    } else {
+        Err(sic::Refusal::NotOrderly)
+    };
+    assert_eq!(sic::step(&body, state), expected);
+    let kept = expected.unwrap_or(state);
+    assert_eq!(state.advance(&body), expected.map(|_| ()));
+    assert_eq!(state, kept);
+}
+
+/// How many settlings were compared.
+fn bounds_agree(trace: &[Instruction], deadline: u32) -> u64 {
     if unknowns(trace) > 5 {
-        return;
+        return 0;
     }
     let times: Vec<u32> = (0..1 << unknowns(trace)).map(|choice| finish(&settle(trace, choice))).collect();
     let (best, worst) = (*times.iter().min().unwrap(), *times.iter().max().unwrap());
     let body = encode(trace);
     assert_eq!(sic::best_worst(&body), Ok(sic::Times { best, worst }));
     assert_eq!(sic::margin(&body, deadline), Ok(deadline as i64 - worst as i64));
+    times.len() as u64
+}
+
+fn records_agree(dice: &mut Dice, bytes: &[u8]) {
+    let k = dice.below(16) as u32;
+    let expected = bytes.chunks_exact(10).nth(k as usize).map(|b| decode(b)[0]);
+    let read = sic::record_at(bytes, k).ok();
+    assert_eq!(
+        read.map(|r| [r.kind, r.fetch, r.access, r.source1, r.source2, r.target, r.execution, r.fetch_latency, r.data_latency]),
+        expected.map(|i| i.fields())
+    );
 }
 
 fn refusals_agree(body: &[u8], other: &[u8]) {
@@ -142,20 +179,51 @@ fn files_agree(dice: &mut Dice, records: &[u8]) {
     }
 }
 
-fn one_round(seed: u64) {
-    let mut dice = Dice(seed | 1);
+/// How many traces were compared.
+fn one_round(seed: u64) -> u64 {
+    let mut dice = Dice(seed.wrapping_mul(0x9e3779b97f4a7c15) | 1);
     let trace = dice.trace(2);
     rows_agree(&trace);
+    for _ in 0..8 {
+        steps_agree(&mut dice, &trace);
+    }
     let unknown = dice.trace(3);
     let deadline = dice.below(100) as u32;
-    bounds_agree(&unknown, deadline);
+    let settlings = bounds_agree(&unknown, deadline);
     let other = dice.trace(2);
     assert_eq!(sic::alike(&encode(&trace), &encode(&other)), Ok(finish(&trace) == finish(&other)));
     files_agree(&mut dice, &encode(&unknown));
     let mut body = encode(&unknown);
     dice.damage(&mut body);
+    records_agree(&mut dice, &body);
     refusals_agree(&body, &encode(&trace));
     files_agree(&mut dice, &body);
+    settlings + 2
+}
+
+/// Rounds from the seed on, on every processor, until the time is over; rounds and traces.
+fn rounds(first: u64, seconds: u64) -> (u64, u64) {
+    let end = Instant::now() + Duration::from_secs(seconds);
+    let (next, traces) = (AtomicU64::new(0), AtomicU64::new(0));
+    let work = || loop {
+        let seed = first.wrapping_add(next.fetch_add(1, Ordering::Relaxed));
+        match std::panic::catch_unwind(|| one_round(seed)) {
+            Ok(compared) => traces.fetch_add(compared, Ordering::Relaxed),
+            Err(cause) => {
+                eprintln!("differs in the first round of SIC_SEED={seed}");
+                std::panic::resume_unwind(cause);
+            }
+        };
+        if Instant::now() >= end {
+            break;
+        }
+    };
+    std::thread::scope(|scope| {
+        for _ in 0..std::thread::available_parallelism().map_or(1, |n| n.get()) {
+            scope.spawn(work);
+        }
+    });
+    (next.into_inner(), traces.into_inner())
 }
 
 #[test]
@@ -163,15 +231,6 @@ fn random_rounds() {
     let given = |name: &str| std::env::var(name).ok().and_then(|v| v.parse::<u64>().ok());
     let now = SystemTime::now().duration_since(UNIX_EPOCH).unwrap().as_nanos() as u64;
     let first = given("SIC_SEED").unwrap_or(now);
-    let end = Instant::now() + Duration::from_secs(given("SIC_SECONDS").unwrap_or(2));
-    let mut rounds = 0u64;
-    while rounds == 0 || Instant::now() < end {
-        let seed = first.wrapping_add(rounds).wrapping_mul(0x9e3779b97f4a7c15);
-        if let Err(cause) = std::panic::catch_unwind(|| one_round(seed)) {
-            eprintln!("differs in round {rounds} of SIC_SEED={first}");
-            std::panic::resume_unwind(cause);
-        }
-        rounds += 1;
-    }
-    println!("{rounds} rounds from SIC_SEED={first}");
+    let (rounds, traces) = rounds(first, given("SIC_SECONDS").unwrap_or(5));
+    println!("{rounds} rounds from SIC_SEED={first}: {traces} traces, {} states, {} files", 8 * rounds, 4 * rounds);
 }

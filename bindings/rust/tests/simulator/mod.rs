@@ -29,6 +29,13 @@ impl Instruction {
         [self.kind, self.fetch | self.access << 2, self.source1, self.source2, self.target, self.execution, f[0], f[1], d[0], d[1]]
     }
 
+    /// The nine fields in the record's order.
+    pub fn fields(&self) -> [u32; 9] {
+        let bytes = [self.kind, self.fetch, self.access, self.source1, self.source2, self.target, self.execution].map(u32::from);
+        let [a, b, c, d, e, f, g] = bytes;
+        [a, b, c, d, e, f, g, self.fetch_latency.into(), self.data_latency.into()]
+    }
+
     fn read(b: &[u8]) -> Instruction {
         Instruction {
             kind: b[0],
@@ -73,7 +80,11 @@ pub fn body_refusal(body: &[u8]) -> u32 {
     if body.len() % 10 != 0 || body.len() > 40960 {
         return 10;
     }
-    if body.chunks_exact(10).all(lawful) { 0 } else { 8 }
+    if body.chunks_exact(10).all(lawful) {
+        0
+    } else {
+        8
+    }
 }
 
 /// 10, 8, 11, or 0.
@@ -137,9 +148,7 @@ fn ready(trace: &[Instruction], places: &[Place], i: usize) -> bool {
     let me = &trace[i];
     let pending = |kind: u8, stage: Stage| (0..i).any(|j| trace[j].kind == kind && short_of(places[j], stage));
     match places[i].stage {
-        Pre => {
-            (0..i).all(|j| places[j].stage != Pre) && !pending(BRANCH, Ex) && (me.fetch == HIT || !pending(LOAD, Mem) && !pending(STORE, St))
-        }
+        Pre => (0..i).all(|j| places[j].stage != Pre) && !pending(BRANCH, Ex) && (me.fetch == HIT || !pending(LOAD, Mem) && !pending(STORE, St)),
         Id => !(0..i).any(|j| {
             let to = trace[j].target;
             trace[j].kind == LOAD && to != 0 && (to == me.source1 || to == me.source2) && short_of(places[j], Mem)
@@ -190,6 +199,51 @@ pub fn all_left(places: &[Place]) -> bool {
     places.iter().all(|p| p.stage == Post)
 }
 
+/// A slot of a state: an instruction's index and its count.
+pub type Held = Option<(usize, u32)>;
+
+/// How many are fetched, and what IF, ID, EX, MEM, ST and WB hold.
+#[derive(Clone, Copy, Debug, PartialEq, Eq)]
+pub struct Slots {
+    pub fetched: usize,
+    pub held: [Held; 6],
+}
+
+const SLOTS: [Stage; 6] = [If, Id, Ex, Mem, St, Wb];
+
+pub fn slots_of(places: &[Place]) -> Slots {
+    let held = SLOTS.map(|stage| places.iter().position(|p| p.stage == stage).map(|i| (i, places[i].count)));
+    Slots { fetched: places.iter().filter(|p| p.stage != Pre).count(), held }
+}
+
+/// "Fetched instructions in no slot are post."
+pub fn places_of(trace: &[Instruction], s: &Slots) -> Vec<Place> {
+    let place = |i: usize| {
+        let here = |h: &Held| matches!(h, Some((k, _)) if *k == i);
+        match s.held.iter().position(here) {
+            Some(at) => Place { stage: SLOTS[at], count: s.held[at].unwrap().1 },
+            None if i < s.fetched => Place { stage: Post, count: 0 },
+            None => Place { stage: Pre, count: 0 },
+        }
+    };
+    (0..trace.len()).map(place).collect()
+}
+
+/// Document 01's sentence on orderly states; that empty slots carry zeros is for who has such slots.
+pub fn orderly(trace: &[Instruction], s: &Slots) -> bool {
+    if s.fetched > trace.len() || s.held.iter().flatten().any(|h| h.0 >= trace.len()) {
+        return false;
+    }
+    let within = |at: usize, (i, count): (usize, u32)| count <= entry(&trace[i], SLOTS[at]);
+    let young: Vec<usize> = s.held[..4].iter().flatten().map(|h| h.0).collect();
+    let m = young.len();
+    m <= s.fetched
+        && young == (s.fetched - m..s.fetched).rev().collect::<Vec<_>>()
+        && s.held[5].map_or(true, |(i, _)| i + m + 1 == s.fetched && trace[i].kind != STORE)
+        && s.held[4].map_or(true, |(i, _)| i + m < s.fetched && trace[i].kind == STORE)
+        && (0..6).all(|at| s.held[at].map_or(true, |h| within(at, h)))
+}
+
 /// Every row from the start to the first after which all have left.
 pub fn rows(trace: &[Instruction]) -> Vec<Vec<Place>> {
     let mut rows = vec![start(trace)];
@@ -201,7 +255,13 @@ pub fn rows(trace: &[Instruction]) -> Vec<Vec<Place>> {
 }
 
 pub fn finish(trace: &[Instruction]) -> u32 {
-    rows(trace).len() as u32 - 1
+    let mut places = start(trace);
+    let mut cycles = 0;
+    while !all_left(&places) {
+        places = cycle(trace, &places);
+        cycles += 1;
+    }
+    cycles
 }
 
 pub fn unknowns(trace: &[Instruction]) -> u32 {

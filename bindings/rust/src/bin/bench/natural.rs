@@ -39,15 +39,27 @@ impl Instruction {
     }
 
     fn in_if(&self) -> u32 {
-        if self.fetch == 1 { self.fetch_latency } else { 0 }
+        if self.fetch == 1 {
+            self.fetch_latency
+        } else {
+            0
+        }
     }
 
     fn in_mem(&self) -> u32 {
-        if self.kind == LOAD && self.access == 1 { self.data_latency } else { 0 }
+        if self.kind == LOAD && self.access == 1 {
+            self.data_latency
+        } else {
+            0
+        }
     }
 
     fn in_last(&self) -> u32 {
-        if self.kind == STORE && self.access == 1 { self.data_latency - 1 } else { 0 }
+        if self.kind == STORE && self.access == 1 {
+            self.data_latency - 1
+        } else {
+            0
+        }
     }
 
     fn reads(&self, register: u8) -> bool {
@@ -75,7 +87,11 @@ pub fn check(body: &[u8]) -> u32 {
     if body.len() % 10 != 0 || body.len() / 10 > 4096 {
         return 10;
     }
-    if body.chunks_exact(10).any(broken) { 8 } else { 0 }
+    if body.chunks_exact(10).any(broken) {
+        8
+    } else {
+        0
+    }
 }
 
 fn settled_check(body: &[u8]) -> u32 {
