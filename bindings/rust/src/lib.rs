@@ -1,4 +1,16 @@
 //! The proved timing engine of the strictly in-order core: slices in, `Result<_, Refusal>` out.
+//!
+//! ```
+//! use sic::Refusal;
+//!
+//! let plain = [0, 0, 0, 0, 0, 0, 1, 0, 0, 0];
+//! assert_eq!(sic::finish(&plain), Ok(6));
+//! assert_eq!(sic::margin(&plain, 5), Ok(-1));
+//!
+//! let unknown_fetch = [0, 2, 0, 0, 0, 0, 10, 0, 0, 0];
+//! assert_eq!(sic::best_worst(&unknown_fetch), Ok(sic::Times { best: 6, worst: 16 }));
+//! assert_eq!(sic::finish(&unknown_fetch), Err(Refusal::UnknownFlag));
+//! ```
 mod raw;
 mod refusal;
 

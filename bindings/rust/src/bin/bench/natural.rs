@@ -83,19 +83,22 @@ fn broken(b: &[u8]) -> bool {
         | (memory == (i.data_latency == 0))
 }
 
-pub fn check(body: &[u8]) -> u32 {
+fn refusal(body: &[u8]) -> u32 {
     if body.len() % 10 != 0 || body.len() / 10 > 4096 {
         return 10;
     }
-    if body.chunks_exact(10).any(broken) {
-        8
-    } else {
-        0
+    8 * body.chunks_exact(10).any(broken) as u32
+}
+
+pub fn check(body: &[u8]) -> Result<(), u32> {
+    match refusal(body) {
+        0 => Ok(()),
+        n => Err(n),
     }
 }
 
 fn settled_check(body: &[u8]) -> u32 {
-    match check(body) {
+    match refusal(body) {
         0 if body.chunks_exact(10).any(|b| b[1] & 2 != 0 || b[1] & 8 != 0) => 11,
         n => n,
     }
@@ -161,7 +164,7 @@ pub fn finish(body: &[u8]) -> Result<u32, u32> {
 }
 
 pub fn best_worst(body: &[u8]) -> Result<(u32, u32), u32> {
-    match check(body) {
+    match refusal(body) {
         0 => Ok((pass(body, 0), pass(body, 1))),
         n => Err(n),
     }
@@ -305,16 +308,30 @@ pub fn step(body: &[u8], s: &State) -> Result<State, u32> {
     }
 }
 
-/// The finishing time by cycle after cycle, nothing checked.
-pub fn finish_by_cycles(body: &[u8]) -> u32 {
+/// Cycle after cycle, nothing checked: the state after at most `limit` cycles, and how many were run.
+pub fn simulate(body: &[u8], limit: u32) -> (State, u32) {
     let n = (body.len() / 10) as u32;
     let mut s = State::start();
     let mut t = 0;
-    while s.fetched < n || slots(&s).iter().any(|slot| slot.filled) {
+    while t < limit && (s.fetched < n || slots(&s).iter().any(|slot| slot.filled)) {
         s = cycle(body, &s);
         t += 1;
     }
-    t
+    (s, t)
+}
+
+fn settled_body(body: &[u8], to: u8) -> Vec<u8> {
+    let flag = |f: u8| if f > 1 { to } else { f };
+    let mut settled = body.to_vec();
+    for b in settled.chunks_exact_mut(10) {
+        b[1] = flag(b[1] & 3) | flag(b[1] >> 2) << 2;
+    }
+    settled
+}
+
+pub fn best_worst_by_cycles(body: &[u8]) -> (u32, u32) {
+    let time = |to: u8| simulate(&settled_body(body, to), u32::MAX).1;
+    (time(0), time(1))
 }
 
 pub fn open(file: &[u8], trace: u32) -> Result<&[u8], u32> {
