@@ -14,9 +14,8 @@ use Rattle.record.specs.Layout.{recordSize, byte}
 use Rattle.record.specs.Body.{records, breaksAt, recordRefusal}
 use Rattle.record.proofs.Alike.{breaks-alike}
 use Rattle.job.specs.Refusal.{firstRefusal}
-use Rattle.job.specs.Layout.{traces, countAt, entryAt, before, bodyStart, startAt, bodyAt}
+use Rattle.job.specs.Layout.{traces, countAt, entryAt, before, bodyStart, startAt, bodyAt, recordsOf}
 use Rattle.job.specs.Open.{tracesRefusal}
-use Rattle.job.specs.RoundTrip.{recordsOf}
 use Rattle.job.proofs.First.{first-zero, first-suc}
 use Rattle.job.proofs.Starts.{start-before, start-le}
 use Rattle.job.proofs.Entries.{start-suc}

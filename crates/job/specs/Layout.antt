@@ -53,3 +53,7 @@ startAt file t = bodyStart (traces file) (countAt file) t
 -- the body of trace t
 abbrev pub bodyAt : List ℕ → ℕ → List ℕ
 bodyAt file t = take (recordSize * countAt file t) (drop (startAt file t) file)
+
+-- the joined records of all traces
+abbrev pub recordsOf : List ℕ → List ℕ
+recordsOf file = drop (entryAt (traces file)) file
