@@ -10,7 +10,8 @@ use lib.Seq.{getD-take, getD-drop, length-take-le}
 use Rattle.machine.specs.Test.{_and_, every, none}
 use Rattle.machine.proofs.Connectives.{and-true, none-same}
 use Rattle.record.specs.Refusal.{_then_, _unless_, brokenRecord}
-use Rattle.record.specs.Layout.{recordSize, byte}
+use Rattle.little_endian.specs.Numbers.{byte}
+use Rattle.record.specs.Layout.{recordSize}
 use Rattle.record.specs.Body.{records, breaksAt, recordRefusal}
 use Rattle.record.proofs.Alike.{breaks-alike}
 use Rattle.job.specs.Refusal.{firstRefusal}

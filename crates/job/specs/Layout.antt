@@ -2,7 +2,8 @@
 use Prim.Native.Nat.{ℕ, zero, suc, _+_, _*_}
 use mathlib.Core.List.{List}
 use lib.ListN.{take, drop}
-use Rattle.record.specs.Layout.{recordSize, half, word}
+use Rattle.little_endian.specs.Numbers.{half, word}
+use Rattle.record.specs.Layout.{recordSize}
 
 -- "Two bytes: the count T of traces, 0 to 16."
 abbrev pub headerSize : ℕ

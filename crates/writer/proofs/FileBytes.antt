@@ -7,7 +7,8 @@ use native.Mathlib.Nat.{le-of-suc-le-suc, not-suc-le-zero, eq-or-lt-of-le, add-a
 use native.Mathlib.Omega.{arith}
 use lib.ListN.{length, take, drop, length-append, List·getD-append}
 use lib.Seq.{getD-append-add, drop-append-add}
-use Rattle.record.specs.Layout.{recordSize, byte, half, word}
+use Rattle.little_endian.specs.Numbers.{byte, half, word}
+use Rattle.record.specs.Layout.{recordSize}
 use Rattle.record.specs.Body.{halfBytes}
 use Rattle.record.proofs.Numbers.{half-of-bytes}
 use Rattle.job.specs.Layout.{headerSize, entrySize, countInEntry, entryAt, traces, countAt, offsetAt, bodyStart, recordsOf}

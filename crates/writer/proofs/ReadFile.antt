@@ -10,7 +10,8 @@ use native.Mathlib.Omega.{arith}
 use lib.ListN.{length, take, drop, length-drop}
 use lib.Seq.{getD-drop, ext-getD}
 use Rattle.record.specs.Refusal.{_then_, _unless_}
-use Rattle.record.specs.Layout.{recordSize, byte, half, word}
+use Rattle.little_endian.specs.Numbers.{byte, half, word}
+use Rattle.record.specs.Layout.{recordSize}
 use Rattle.record.specs.Body.{Bytes, halfBytes, firsts, recordRefusal}
 use Rattle.record.proofs.Refusals.{go-on, passes, last-passes}
 use Rattle.machine.proofs.Connectives.{none-below}

@@ -2,21 +2,21 @@ use native.Mathlib.Omega.{arith}
 use lib.ListN.{List·getD-eq-default}
 use Prim.Native.Nat.{ℕ}
 use borrow.Author.Needs.{needs}
-use Rattle.record.proofs.bytes.byte.Statement.{statement}
-use Rattle.record.proofs.bytes.byte.Tie as tie
-use Rattle.record.proofs.bytes.byte.Reads as reads
-use Rattle.record.proofs.bytes.byte.Lts as lts
-use Rattle.record.proofs.bytes.byte_at.Reads as byte-at-reads
+use Rattle.little_endian.proofs.byte.Statement.{statement}
+use Rattle.little_endian.proofs.byte.Tie as tie
+use Rattle.little_endian.proofs.byte.Reads as reads
+use Rattle.little_endian.proofs.byte.Lts as lts
+use Rattle.little_endian.proofs.byte_at.Reads as byte-at-reads
 
--- src/bytes.rt:33:9
+-- src/lib.rt:33:9
 byte-at-requires : tie.Need-byte-at-requires
 byte-at-requires c κs = search needs
 
--- src/bytes.rt:33:9
+-- src/lib.rt:33:9
 returns : tie.Need-returns
 returns c = search needs
 
--- src/bytes.rt:29:1
+-- src/lib.rt:29:1
 returns-2 : tie.Need-returns-2
 returns-2 c = (rw (List·getD-eq-default {A = ℕ} _ 0 (c .if1 .left)), omega arith)
 

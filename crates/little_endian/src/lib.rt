@@ -2,7 +2,7 @@
 ghost use mathlib.Core.Path.{_≡_};
 ghost use Prim.Native.Nat.{_+_, _<_, _^_};
 ghost use lib.ListN.{length};
-ghost use Rattle.record.specs.Layout.{byte, half, word};
+ghost use Rattle.little_endian.specs.Numbers.{byte, half, word};
 
 fn wide(x: u8) -> u32
     ensures { λ r. ⌜ (r ≡ x) × (r < 256) ⌝ }
@@ -10,7 +10,7 @@ fn wide(x: u8) -> u32
     x as u32
 }
 
-pub(crate) fn byte_at(bytes: &[u8], at: usize) -> u32
+pub fn byte_at(bytes: &[u8], at: usize) -> u32
     requires { ⌜ at < length (now bytes) ⌝ }
     ensures { λ r. ⌜ (r ≡ byte (now (bytes .entry)) at) × (r < 256) ⌝ }
 {
@@ -18,7 +18,7 @@ pub(crate) fn byte_at(bytes: &[u8], at: usize) -> u32
 }
 
 // Two bytes, the low one first.
-pub(crate) fn half_at(bytes: &[u8], at: usize) -> u32
+pub fn half_at(bytes: &[u8], at: usize) -> u32
     requires { ⌜ at + 1 < length (now bytes) ⌝ }
     ensures { λ r. ⌜ (r ≡ half (now (bytes .entry)) at) × (r < 65536) ⌝ }
 {
