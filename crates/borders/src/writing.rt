@@ -9,7 +9,7 @@ use crate::build::first;
 use crate::build::put;
 use crate::build::same;
 use crate::groups::Seen;
-use job::Written;
+use writer::Written;
 
 // A case: how many counts there are, and the first, those between and the last of them; how many
 // bytes the records have, and which of them is set to 0 (6 is in the first fetch latency); the
@@ -137,7 +137,7 @@ fn write_to(counts: &[u16], records: &[u8], out: &mut [u8], room: u32) -> Writte
             length: 0,
         };
     }
-    job::write(counts, records, &mut out[0..end])
+    writer::write(counts, records, &mut out[0..end])
 }
 
 fn write_counts(counts: &mut [u16], case: Writing, records: &[u8], out: &mut [u8]) -> Written {

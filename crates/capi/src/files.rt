@@ -3,10 +3,10 @@ ghost use mathlib.Core.Path.{_≡_};
 ghost use lib.ListN.{length, take, drop};
 ghost use Rattle.record.specs.Body.{bodyRefusal, readAnswer};
 ghost use Rattle.job.specs.Open.{openRefusal, openBody};
-ghost use Rattle.job.specs.Write.{writeAnswer, writeOutput};
+ghost use Rattle.writer.specs.Write.{writeAnswer, writeOutput};
 ghost use Rattle.drawing.specs.Chart.{chartLength, chartOutput};
-use job::Written;
 use record::Read;
+use writer::Written;
 
 // A part of a file: where it starts and how long it is.
 #[repr(C)]
@@ -33,7 +33,7 @@ pub extern "C" fn sic_open(file: &[u8], trace: u32) -> Part
 pub extern "C" fn sic_write(counts: &[u16], records: &[u8], out: &mut [u8]) -> Written
     ensures { λ r. ⌜ (r ≡ writeAnswer (now (counts .entry)) (now (records .entry)) (length (now (out .entry)))) × (now (out .exit) ≡ writeOutput (now (counts .entry)) (now (records .entry)) (now (out .entry))) ⌝ }
 {
-    job::write(counts, records, out)
+    writer::write(counts, records, out)
 }
 
 // Whether a view of the body can be made: 10, then 8.

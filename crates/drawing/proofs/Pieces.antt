@@ -9,7 +9,7 @@ use lib.Dec.{ltb}
 use lib.ListN.{length, take, drop, length-append, length-drop, take-append-drop}
 use lib.Seq.{length-take-le}
 use Rattle.machine.proofs.Connectives.{Value, passed, failed, value}
-use Rattle.job.proofs.Put.{put-both}
+use Rattle.writer.proofs.Put.{put-both}
 use Rattle.drawing.specs.Text.{put, Wrote, decimalWithin, decimal}
 
 pub length-put : (at : ℕ) (text out : List ℕ) → at + length text ≤ length out → length (put at text out) ≡ length out

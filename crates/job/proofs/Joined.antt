@@ -10,13 +10,13 @@ use lib.Seq.{getD-take, getD-drop, length-take-le}
 use Rattle.machine.specs.Test.{_and_, every, none}
 use Rattle.machine.proofs.Connectives.{and-true, none-same}
 use Rattle.record.specs.Refusal.{_then_, _unless_, brokenRecord}
-use Rattle.record.specs.Layout.{recordSize, byte}
+use Rattle.little_endian.specs.Numbers.{byte}
+use Rattle.record.specs.Layout.{recordSize}
 use Rattle.record.specs.Body.{records, breaksAt, recordRefusal}
 use Rattle.record.proofs.Alike.{breaks-alike}
 use Rattle.job.specs.Refusal.{firstRefusal}
-use Rattle.job.specs.Layout.{traces, countAt, entryAt, before, bodyStart, startAt, bodyAt}
+use Rattle.job.specs.Layout.{traces, countAt, entryAt, before, bodyStart, startAt, bodyAt, recordsOf}
 use Rattle.job.specs.Open.{tracesRefusal}
-use Rattle.job.specs.RoundTrip.{recordsOf}
 use Rattle.job.proofs.First.{first-zero, first-suc}
 use Rattle.job.proofs.Starts.{start-before, start-le}
 use Rattle.job.proofs.Entries.{start-suc}

@@ -1,11 +1,4 @@
 pub mod First
-pub mod Put
-pub mod WrittenTable
-pub mod WriteAnswer
-pub mod FileBytes
-pub mod WrittenFile
-pub mod ReadFile
-pub mod RoundTrip
 pub mod Entries
 pub mod Starts
 pub mod Joined

@@ -2,7 +2,8 @@
 use Prim.Native.Nat.{ℕ, zero, suc, _+_, _*_}
 use mathlib.Core.List.{List}
 use lib.ListN.{take, drop}
-use Rattle.record.specs.Layout.{recordSize, half, word}
+use Rattle.little_endian.specs.Numbers.{half, word}
+use Rattle.record.specs.Layout.{recordSize}
 
 -- "Two bytes: the count T of traces, 0 to 16."
 abbrev pub headerSize : ℕ
@@ -53,3 +54,7 @@ startAt file t = bodyStart (traces file) (countAt file) t
 -- the body of trace t
 abbrev pub bodyAt : List ℕ → ℕ → List ℕ
 bodyAt file t = take (recordSize * countAt file t) (drop (startAt file t) file)
+
+-- the joined records of all traces
+abbrev pub recordsOf : List ℕ → List ℕ
+recordsOf file = drop (entryAt (traces file)) file

@@ -1,5 +1,3 @@
 pub mod Refusal
 pub mod Layout
 pub mod Open
-pub mod Write
-pub mod RoundTrip

@@ -1,8 +1,7 @@
-// The job file: Open finds a trace's body in a file, Write makes a file of counts and records.
+// The job file: Open finds a trace's body in a file.
 pub mod opening;
 pub mod refusal;
 pub mod table;
-pub mod writing;
 
 pub use opening::Opened;
 pub use opening::cut;
@@ -11,5 +10,3 @@ pub use opening::open_body;
 pub use table::Located;
 pub use table::file_refusal;
 pub use table::locate;
-pub use writing::Written;
-pub use writing::write;

@@ -4,7 +4,7 @@ use crate::dice::part;
 use crate::dice::small;
 use crate::traces::Draft;
 use job::locate;
-use job::write;
+use writer::write;
 
 // A file, or what is left of one; the numbers that Write gave with room and without, and whether the
 // model gives them too.

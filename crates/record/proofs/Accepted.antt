@@ -7,7 +7,8 @@ use native.Mathlib.Omega.{arith}
 use borrow.Author.Tests.{eqb-true, eqb-false, leb-true, eq-eqb, le-leb}
 use lib.Dec.{leb, eqb}
 use lib.ListN.{length}
-use Rattle.record.specs.Layout.{recordSize, flagsAt, byte}
+use Rattle.little_endian.specs.Numbers.{byte}
+use Rattle.record.specs.Layout.{recordSize, flagsAt}
 use Rattle.record.specs.Rules.{hasUnknown}
 use Rattle.record.specs.Body.{Bytes, records, fieldsAt, breaksAt, unknownAt, lengthRefusal, recordRefusal, unknownRefusal, bodyRefusal, settledRefusal}
 use Rattle.record.proofs.Refusals.{then-none, then-first, then-second, unless-passed, last-passes}

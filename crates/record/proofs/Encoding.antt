@@ -8,7 +8,8 @@ use native.Mathlib.Omega.{arith}
 use lib.ListN.{length, getD, length-append, List·getD-append}
 use lib.Seq.{getD-at, getD-append-add}
 use Rattle.machine.specs.Instruction.{Instruction, Trace, instruction, blank}
-use Rattle.record.specs.Layout.{recordSize, byte}
+use Rattle.little_endian.specs.Numbers.{byte}
+use Rattle.record.specs.Layout.{recordSize}
 use Rattle.record.specs.Rules.{instructionOf}
 use Rattle.record.specs.Body.{records, fieldsAt, firsts, traceOf, recordOf, bodyOf}
 

@@ -7,7 +7,8 @@ use native.Mathlib.Omega.{arith}
 use lib.ListN.{length}
 use lib.Seq.{ext-getD}
 use Rattle.machine.specs.Instruction.{Instruction, Trace, instruction, blank}
-use Rattle.record.specs.Layout.{recordSize, flagsAt, fetchLatencyAt, dataLatencyAt, byte, fieldsFrom}
+use Rattle.little_endian.specs.Numbers.{byte}
+use Rattle.record.specs.Layout.{recordSize, flagsAt, fetchLatencyAt, dataLatencyAt, fieldsFrom}
 use Rattle.record.specs.Rules.{instructionOf}
 use Rattle.record.specs.Body.{Bytes, records, fieldsAt, breaksAt, firsts, traceOf, recordOf, bodyOf, bodyRefusal}
 use Rattle.record.specs.Claims.{AcceptedIsEncoded, EncodingIsDecoded}

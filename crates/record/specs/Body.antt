@@ -8,7 +8,8 @@ use Rattle.machine.specs.Test.{every, none}
 use Rattle.machine.specs.Instruction.{Flag, Instruction, Trace}
 use Rattle.machine.specs.Time.{settle}
 use Rattle.record.specs.Refusal.{_then_, _unless_, brokenRecord, outOfRange, wrongLength, unknownFlag}
-use Rattle.record.specs.Layout.{recordSize, flagsAt, byte, fieldsFrom}
+use Rattle.little_endian.specs.Numbers.{byte}
+use Rattle.record.specs.Layout.{recordSize, flagsAt, fieldsFrom}
 use Rattle.record.specs.Rules.{breaksRules, hasUnknown, kindNumber, flagNumber, instructionOf}
 use Rattle.record.specs.declared.layout.Fields.{Fields}
 use Rattle.record.specs.declared.layout.Read.{Read}

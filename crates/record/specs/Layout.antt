@@ -3,8 +3,8 @@ use Prim.Native.Nat.{ℕ, _+_, _*_, _/_, _%_}
 use mathlib.Core.Bool.{Bool, true, false, not}
 use mathlib.Core.List.{List, [], _∷_}
 use lib.Dec.{ltb, eqb}
-use lib.ListN.{getD}
 use Rattle.machine.specs.Test.{_and_, _or_}
+use Rattle.little_endian.specs.Numbers.{byte, half}
 use Rattle.record.specs.declared.layout.Fields.{Fields}
 
 -- "A body holds ten bytes for each instruction."
@@ -36,17 +36,6 @@ fetchLatencyAt = 6
 
 abbrev pub dataLatencyAt : ℕ
 dataLatencyAt = 8
-
-abbrev pub byte : List ℕ → ℕ → ℕ
-byte bytes at = getD bytes at 0
-
--- "Little endian": two bytes as a number
-abbrev pub half : List ℕ → ℕ → ℕ
-half bytes at = byte bytes at + 256 * byte bytes (at + 1)
-
--- and four
-abbrev pub word : List ℕ → ℕ → ℕ
-word bytes at = byte bytes at + 256 * byte bytes (at + 1) + 65536 * byte bytes (at + 2) + 16777216 * byte bytes (at + 3)
 
 -- The nine fields of the record that starts at a byte, as the bytes stand. "bits 0 and 1 the fetch, bits 2 and 3 the data access"
 unfoldable pub fieldsFrom : List ℕ → ℕ → Fields

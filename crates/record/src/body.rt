@@ -3,7 +3,8 @@
 ghost use mathlib.Core.Path.{_≡_};
 ghost use Prim.Native.Nat.{_+_, _≤_};
 ghost use lib.ListN.{length};
-ghost use Rattle.record.specs.Layout.{recordSize, flagsAt, byte, fieldsFrom};
+ghost use Rattle.little_endian.specs.Numbers.{byte};
+ghost use Rattle.record.specs.Layout.{recordSize, flagsAt, fieldsFrom};
 ghost use Rattle.record.specs.Rules.{breaksRules, hasUnknown};
 ghost use Rattle.record.specs.Body.{
   lengthRefusal,
@@ -12,7 +13,6 @@ ghost use Rattle.record.specs.Body.{
   bodyRefusal,
   settledRefusal,
 };
-use crate::bytes::byte_at;
 use crate::layout::FLAGS;
 use crate::layout::Fields;
 use crate::layout::RECORD_SIZE;
@@ -20,6 +20,7 @@ use crate::layout::fields_from;
 use crate::refusal::BROKEN_RECORD;
 use crate::refusal::UNKNOWN_FLAG;
 use crate::refusal::WRONG_LENGTH;
+use little_endian::byte_at;
 use machine::State;
 
 // The most records that a body holds.

@@ -4,9 +4,9 @@ ghost use Prim.Native.Nat.{_+_, _≤_};
 ghost use lib.ListN.{length};
 ghost use Rattle.record.specs.Layout.{recordSize, fieldsFrom};
 ghost use Rattle.record.specs.Body.{readAnswer};
-use crate::bytes::byte_at;
-use crate::bytes::half_at;
 use crate::refusal::OUT_OF_RANGE;
+use little_endian::byte_at;
+use little_endian::half_at;
 
 // The record's size, and where each field starts in it.
 pub const RECORD_SIZE: usize = 10;

@@ -1,7 +1,6 @@
 // The instruction record and the body: reading, the record rules, and the checks that every call
 // shares.
 pub mod body;
-pub mod bytes;
 pub mod layout;
 pub mod refusal;
 

@@ -1,6 +1,6 @@
 -- `drawing::text::put_text` meets its contract: the text is copied into the part of the output from its place on.
 use mathlib.Core.Path.{refl}
-use Rattle.job.proofs.Put.{put-part}
+use Rattle.writer.proofs.Put.{put-part}
 use Rattle.drawing.specs.Text.{put}
 use borrow.Author.Needs.{needs}
 use Rattle.drawing.proofs.text.put_text.Statement.{statement}

@@ -11,8 +11,8 @@ use Rattle.job.proofs.table.entries_of.Statement.{statement}
 use Rattle.job.proofs.table.entries_of.Tie as tie
 use Rattle.job.proofs.table.entries_of.Reads as reads
 use Rattle.job.proofs.table.entries_of.Lts as lts
-use Rattle.record.proofs.bytes.half.Reads as half-reads
-use Rattle.record.proofs.bytes.word.Reads as word-reads
+use Rattle.little_endian.proofs.half.Reads as half-reads
+use Rattle.little_endian.proofs.word.Reads as word-reads
 
 abbrev Inv-loop : tie.InvT-loop
 Inv-loop file count end₀ t₀ end t = (t ≤ count) × (end ≡ startAt file t) × (firstRefusal (entryRefusal file) t ≡ 0) × (end ≤ 98 + 40960 * t)

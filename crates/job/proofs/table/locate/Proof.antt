@@ -9,8 +9,8 @@ use Rattle.job.proofs.table.locate.Tie as tie
 use Rattle.job.proofs.table.locate.Reads as reads
 use Rattle.job.proofs.table.locate.Lts as lts
 use Rattle.job.proofs.table.file_refusal.Reads as file-refusal-reads
-use Rattle.record.proofs.bytes.half.Reads as half-reads
-use Rattle.record.proofs.bytes.word.Reads as word-reads
+use Rattle.little_endian.proofs.half.Reads as half-reads
+use Rattle.little_endian.proofs.word.Reads as word-reads
 
 -- src/table.rt:121:9
 file-refusal-requires : tie.Need-file-refusal-requires

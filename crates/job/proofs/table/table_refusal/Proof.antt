@@ -6,7 +6,7 @@ use Rattle.job.proofs.table.table_refusal.Statement.{statement}
 use Rattle.job.proofs.table.table_refusal.Tie as tie
 use Rattle.job.proofs.table.table_refusal.Reads as reads
 use Rattle.job.proofs.table.table_refusal.Lts as lts
-use Rattle.record.proofs.bytes.half.Reads as half-reads
+use Rattle.little_endian.proofs.half.Reads as half-reads
 
 -- src/table.rt:54:21
 cast-if1 : tie.Need-cast-if1

@@ -7,10 +7,9 @@ use Rattle.record.specs.Layout.{
   executionAt,
   fetchLatencyAt,
   dataLatencyAt,
-  byte,
-  half,
   fieldsFrom,
 }
+use Rattle.little_endian.specs.Numbers.{byte, half}
 use Rattle.record.specs.declared.layout.Fields.{Fields}
 use mathlib.Core.List.{List}
 use mathlib.Core.Path.{_≡_, ap}
@@ -20,8 +19,8 @@ use Rattle.record.proofs.layout.fields_from.Statement.{statement}
 use Rattle.record.proofs.layout.fields_from.Tie as tie
 use Rattle.record.proofs.layout.fields_from.Reads as reads
 use Rattle.record.proofs.layout.fields_from.Lts as lts
-use Rattle.record.proofs.bytes.byte_at.Reads as byte-at-reads
-use Rattle.record.proofs.bytes.half_at.Reads as half-at-reads
+use Rattle.little_endian.proofs.byte_at.Reads as byte-at-reads
+use Rattle.little_endian.proofs.half_at.Reads as half-at-reads
 
 -- field by field, so that a wrong field is refused by its own line
 same

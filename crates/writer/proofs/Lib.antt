@@ -1,0 +1,7 @@
+pub mod Put
+pub mod WrittenTable
+pub mod WriteAnswer
+pub mod FileBytes
+pub mod WrittenFile
+pub mod ReadFile
+pub mod RoundTrip
