@@ -1,20 +1,20 @@
--- `drawing::text::put_decimal` meets its contract: a number's digits are those of its tenth, then its last.
+-- `text::put::put_decimal` meets its contract: a number's digits are those of its tenth, then its last.
 use mathlib.Core.List.{List, _∷_, [], _++_}
 use mathlib.Core.Path.{_≡_, sym, ap, subst, _∙_}
 use native.Mathlib.Omega.{arith}
 use lib.ListN.{length}
-use Rattle.drawing.specs.Text.{Wrote, decimal}
-use Rattle.drawing.proofs.Pieces.{wrote-then, decimal-one, decimal-more, decimal-grows}
+use Rattle.text.specs.Text.{Wrote, decimal}
+use Rattle.text.proofs.Pieces.{wrote-then, decimal-one, decimal-more, decimal-grows}
 use Prim.Native.Nat.{ℕ, _/_, _<_}
 use borrow.Fn.Kinds.{In}
 use borrow.Fn.PlainCycle.{Measures, is, falls, and}
-use Rattle.drawing.proofs.text.put_decimal.Reads as put-decimal
-use Rattle.drawing.proofs.text.put_decimal.Kinds as put-decimal-kinds
-use Rattle.drawing.proofs.text.+put_decimal.Lts-put_decimal as put-decimal-lts
-use Rattle.drawing.proofs.text.digit.Reads as digit-reads
-use Rattle.drawing.proofs.text.put_byte.Reads as put-byte-reads
-use Rattle.drawing.proofs.text.+put_decimal.{statement}
-use Rattle.drawing.proofs.text.+put_decimal.Tie.{close}
+use Rattle.text.proofs.put.put_decimal.Reads as put-decimal
+use Rattle.text.proofs.put.put_decimal.Kinds as put-decimal-kinds
+use Rattle.text.proofs.put.+put_decimal.Lts-put_decimal as put-decimal-lts
+use Rattle.text.proofs.put.digit.Reads as digit-reads
+use Rattle.text.proofs.put.put_byte.Reads as put-byte-reads
+use Rattle.text.proofs.put.+put_decimal.{statement}
+use Rattle.text.proofs.put.+put_decimal.Tie.{close}
 
 abbrev μ-put-decimal : Measures 1 put-decimal-kinds.ps ℕ
 μ-put-decimal κs a = a .1 .1 .0
@@ -27,7 +27,7 @@ abbrev put-decimal-below : ℕ → In 1 put-decimal-kinds.ps
 put-decimal-below t =
     and 1 put-decimal-kinds.ps (falls 1 put-decimal-kinds.ps _<_ μ-put-decimal t) put-decimal.Pre
 
--- src/text.rt:36:34
+-- src/put.rt:36:34
 put-decimal-digit-requires : (t : ℕ) → put-decimal-lts.Need-digit-requires (
   digit-reads.Asked,
   digit-reads.Learnt,
@@ -38,7 +38,7 @@ put-decimal-digit-requires : (t : ℕ) → put-decimal-lts.Need-digit-requires (
 ) (put-decimal-at t) put-decimal.Post
 put-decimal-digit-requires t c κs = c .before .if1 .taken
 
--- src/text.rt:36:9
+-- src/put.rt:36:9
 put-decimal-put-byte-requires : (t : ℕ) → put-decimal-lts.Need-put-byte-requires (
   digit-reads.Asked,
   digit-reads.Learnt,
@@ -49,7 +49,7 @@ put-decimal-put-byte-requires : (t : ℕ) → put-decimal-lts.Need-put-byte-requ
 ) (put-decimal-at t) put-decimal.Post
 put-decimal-put-byte-requires t c κs = let e : length (decimal (c .before .before .before .before .args .n)) ≡ 1 = ap (λ (t : List ℕ). length t) (decimal-one _ (c .before .before .if1 .taken)) in omega (arith, c .before .before .before .before .pre .1)
 
--- src/text.rt:36:9
+-- src/put.rt:36:9
 put-decimal-same-length : (t : ℕ) → put-decimal-lts.Need-same-length (
   digit-reads.Asked,
   digit-reads.Learnt,
@@ -60,7 +60,7 @@ put-decimal-same-length : (t : ℕ) → put-decimal-lts.Need-same-length (
 ) (put-decimal-at t) put-decimal.Post
 put-decimal-same-length t c = c .before .before .put-byte .kept .0
 
--- src/text.rt:36:9
+-- src/put.rt:36:9
 put-decimal-returns : (t : ℕ) → put-decimal-lts.Need-returns (
   digit-reads.Asked,
   digit-reads.Learnt,
@@ -71,7 +71,7 @@ put-decimal-returns : (t : ℕ) → put-decimal-lts.Need-returns (
 ) (put-decimal-at t) put-decimal.Post
 put-decimal-returns t c = let a = c .before .before .before .before .before .before .before .args in subst (λ (text : List ℕ). Wrote (a .at) text (a .out .now) (c .before .before .put-byte .last .0) (c .before .before .put-byte .result)) (ap (λ (b : ℕ). b ∷ []) (c .before .before .before .digit .ensures) ∙ sym (decimal-one _ (c .before .before .before .before .before .if1 .taken))) (c .before .before .put-byte .ensures)
 
--- src/text.rt:38:9
+-- src/put.rt:38:9
 put-decimal-put-decimal-requires : (t : ℕ) → put-decimal-lts.Need-put-decimal-requires (
   digit-reads.Asked,
   digit-reads.Learnt,
@@ -82,7 +82,7 @@ put-decimal-put-decimal-requires : (t : ℕ) → put-decimal-lts.Need-put-decima
 ) (put-decimal-at t) put-decimal.Post
 put-decimal-put-decimal-requires t c κs = let e = decimal-grows (c .before .before .before .args .n) (omega arith) (c .before .if1 .left) in (omega (arith, c .before .before .before .pre .0, c .before .if1 .left), omega (arith, c .before .before .before .pre .1))
 
--- src/text.rt:39:25
+-- src/put.rt:39:25
 put-decimal-digit-requires-2 : (t : ℕ) → put-decimal-lts.Need-digit-requires-2 (
   digit-reads.Asked,
   digit-reads.Learnt,
@@ -93,7 +93,7 @@ put-decimal-digit-requires-2 : (t : ℕ) → put-decimal-lts.Need-digit-requires
 ) (put-decimal-at t) put-decimal.Post
 put-decimal-digit-requires-2 t c κs = omega arith
 
--- src/text.rt:39:5
+-- src/put.rt:39:5
 put-decimal-put-byte-requires-2 : (t : ℕ) → put-decimal-lts.Need-put-byte-requires-2 (
   digit-reads.Asked,
   digit-reads.Learnt,
@@ -104,7 +104,7 @@ put-decimal-put-byte-requires-2 : (t : ℕ) → put-decimal-lts.Need-put-byte-re
 ) (put-decimal-at t) put-decimal.Post
 put-decimal-put-byte-requires-2 t c κs = let e = decimal-grows (c .before .before .before .before .before .before .before .before .args .n) (omega arith) (c .before .before .before .before .before .before .if1 .left) in omega (arith, c .before .before .before .before .before .before .before .before .pre .1, c .before .before .before .before .put-decimal .ensures .0, c .before .before .before .before .put-decimal .kept .0)
 
--- src/text.rt:31:1
+-- src/put.rt:31:1
 put-decimal-same-length-2 : (t : ℕ) → put-decimal-lts.Need-same-length-2 (
   digit-reads.Asked,
   digit-reads.Learnt,
@@ -115,7 +115,7 @@ put-decimal-same-length-2 : (t : ℕ) → put-decimal-lts.Need-same-length-2 (
 ) (put-decimal-at t) put-decimal.Post
 put-decimal-same-length-2 t c = c .before .before .put-byte2 .kept .0 ∙ c .before .before .before .before .before .before .before .put-decimal .kept .0
 
--- src/text.rt:31:1
+-- src/put.rt:31:1
 put-decimal-returns-2 : (t : ℕ) → put-decimal-lts.Need-returns-2 (
   digit-reads.Asked,
   digit-reads.Learnt,

@@ -1,28 +1,28 @@
--- `drawing::text::put_byte` meets its contract.
+-- `text::put::put_byte` meets its contract.
 use mathlib.Core.List.{_∷_, []}
 use mathlib.Core.Path.{refl}
 use native.Mathlib.Omega.{arith}
 use lib.Seq.{sets-eq}
-use Rattle.drawing.specs.Text.{put}
+use Rattle.text.specs.Text.{put}
 use borrow.Author.Needs.{needs}
-use Rattle.drawing.proofs.text.put_byte.Statement.{statement}
-use Rattle.drawing.proofs.text.put_byte.Tie as tie
-use Rattle.drawing.proofs.text.put_byte.Reads as reads
-use Rattle.drawing.proofs.text.put_byte.Lts as lts
+use Rattle.text.proofs.put.put_byte.Statement.{statement}
+use Rattle.text.proofs.put.put_byte.Tie as tie
+use Rattle.text.proofs.put.put_byte.Reads as reads
+use Rattle.text.proofs.put.put_byte.Lts as lts
 
--- src/text.rt:12:5
+-- src/put.rt:12:5
 slice-write-out : tie.Need-slice-write-out
 slice-write-out c = search needs
 
--- src/text.rt:13:5
+-- src/put.rt:13:5
 add-result : tie.Need-add-result
 add-result c = search needs
 
--- src/text.rt:8:1
+-- src/put.rt:8:1
 same-length : tie.Need-same-length
 same-length c = search needs
 
--- src/text.rt:8:1
+-- src/put.rt:8:1
 returns : tie.Need-returns
 unfolding put
 returns c = let a = c .args in (refl, sets-eq (a .b ∷ []) (a .out .now) (a .at) (omega (arith, c .pre)), omega (arith, c .pre))

@@ -10,7 +10,7 @@ use lib.ListN.{length, take, drop, length-append, length-drop, take-append-drop}
 use lib.Seq.{length-take-le}
 use Rattle.machine.proofs.Connectives.{Value, passed, failed, value}
 use Rattle.job.proofs.Put.{put-both}
-use Rattle.drawing.specs.Text.{put, Wrote, decimalWithin, decimal}
+use Rattle.text.specs.Text.{put, Wrote, decimalWithin, decimal}
 
 pub length-put : (at : ℕ) (text out : List ℕ) → at + length text ≤ length out → length (put at text out) ≡ length out
 unfolding put
@@ -50,7 +50,7 @@ pub as-text : (at : ℕ) (before : List ℕ) {end : ℕ} {a b afterwards : List 
 as-text at before {end} {a} {b} {afterwards} e = subst (λ (text : List ℕ). Wrote at text before afterwards end) e
 
 -- what k digits hold
-tens : ℕ → ℕ
+unfoldable pub tens : ℕ → ℕ
 tens zero = 1
 tens (suc k) = 10 * tens k
 
@@ -85,6 +85,21 @@ decimal-more n h l =
 
 pub decimal-grows : (n : ℕ) → n < 4294967296 → 10 ≤ n → length (decimal n) ≡ length (decimal (n / 10)) + 1
 decimal-grows n h l = ap (λ (t : List ℕ). length t) (decimal-more n h l) ∙ length-append (decimal (n / 10)) ((48 + n % 10) ∷ [])
+
+-- a number that k digits hold has no more, however many may be written
+few-digits : (k m n : ℕ) → n < tens (suc k) → Value (ltb n 10) → length (decimalWithin m n) ≤ suc k
+unfolding decimalWithin tens
+few-digits k zero n h v = omega arith
+few-digits k (suc m) n h (passed l) = rw l (omega arith)
+few-digits zero (suc m) n h (failed l) = let more = ltb-false n 10 l in absurd (omega arith)
+few-digits (suc k) (suc m) n h (failed l) =
+    let rest = few-digits k m (n / 10) (omega arith) (value (ltb (n / 10) 10)) in
+    let one = length-append (decimalWithin m (n / 10)) ((48 + n % 10) ∷ []) in
+    rw l (omega arith)
+
+pub decimal-few : (k n : ℕ) → n < tens (suc k) → length (decimal n) ≤ suc k
+unfolding decimal
+decimal-few k n h = few-digits k 10 n h (value (ltb n 10))
 
 digits-within : (k n : ℕ) → Value (ltb n 10) → length (decimalWithin k n) ≤ k
 unfolding decimalWithin
