@@ -25,7 +25,7 @@ no-deadline-requires c κs = tt
 
 -- src/deadlines.rt:42:9
 returns : tie.Need-returns Inv-loop μ-loop
-returns c = c .no-deadline .ensures ∙ sym (word-empty _ (c .before .if1 .taken))
+returns c = c .no-deadline .ensures ∙ sym (word-empty (c .before .before .before .args .word .now) (omega (arith, c .before .if1 .taken)))
 
 -- src/deadlines.rt:46:5
 loop-holds : tie.Need-loop-holds Inv-loop μ-loop
