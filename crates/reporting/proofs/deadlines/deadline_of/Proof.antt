@@ -69,7 +69,7 @@ no-deadline-requires-3 c κs = tt
 
 -- src/deadlines.rt:53:13
 returns-3 : tie.Need-returns-3 Inv-loop μ-loop
-returns-3 c = c .no-deadline3 .ensures ∙ sym (word-large _ _ _ (c .before .if3 .taken) (reading-goes _ _ _ (c .before .before .before .before .before .before .loop-test .taken) (c .before .before .before .before .wide .ensures .0) (sym (c .before .before .before .is-digit .ensures) ∙ not-false _ (c .before .before .if2 .left)) refl (c .before .before .before .before .before .before .before .loop .inv .2)))
+returns-3 c = let word = c .before .before .before .before .before .before .before .before .before .before .args .word .now in let n = 10 * c .before .before .before .before .before .before .before .loop .cycles + (c .before .before .before .before .wide .result - 48) in c .no-deadline3 .ensures ∙ sym (word-large word (c .before .before .before .before .before .before .before .loop .i + 1) n (omega (arith, c .before .if3 .taken)) (reading-goes word (c .before .before .before .before .before .before .before .loop .i) (c .before .before .before .before .before .before .before .loop .cycles) (c .before .before .before .before .before .before .loop-test .taken) (c .before .before .before .before .wide .ensures .0) (sym (c .before .before .before .is-digit .ensures) ∙ not-false _ (c .before .before .if2 .left)) refl (c .before .before .before .before .before .before .before .loop .inv .2)))
 
 -- src/deadlines.rt:55:9
 add-i : tie.Need-add-i Inv-loop μ-loop

@@ -25,7 +25,7 @@ digits-below t = and 0 digits-kinds.ps (falls 0 digits-kinds.ps _<_ μ-digits t)
 -- src/aligned.rt:14:9
 digits-returns :
     (t : ℕ) → digits-lts.Need-returns (digits-below t, digits.Post) (digits-at t) digits.Post
-digits-returns t c = sym (ap (λ (t : List ℕ). length t) (decimal-one _ (c .if1 .taken)))
+digits-returns t c = sym (ap (λ (t : List ℕ). length t) (decimal-one (c .before .args .n) (omega (arith, c .if1 .taken))))
 
 -- src/aligned.rt:16:5
 digits-digits-requires :
@@ -41,7 +41,7 @@ digits-add-result t c = let few = decimal-short (c .before .before .args .n / 10
 -- src/aligned.rt:10:1
 digits-returns-2 :
     (t : ℕ) → digits-lts.Need-returns-2 (digits-below t, digits.Post) (digits-at t) digits.Post
-digits-returns-2 t c = let more = decimal-grows (c .before .before .args .n) (omega arith) (c .before .if1 .left) in omega (arith, c .digits .ensures)
+digits-returns-2 t c = let more = decimal-grows (c .before .before .args .n) (omega arith) (omega (arith, c .before .if1 .left)) in omega (arith, c .digits .ensures)
 
 pub +digits-spec : {M : Type 1} → statement M
 +digits-spec =
