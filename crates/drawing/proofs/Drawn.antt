@@ -10,9 +10,9 @@ use lib.Seq.{length-take-le}
 use Rattle.machine.proofs.Connectives.{Value, passed, failed, value}
 use Rattle.record.specs.Body.{traceOf}
 use Rattle.job.specs.Open.{openRefusal, openBody}
-use Rattle.drawing.specs.Text.{put, Wrote}
+use Rattle.text.specs.Text.{put, Wrote}
 use Rattle.drawing.specs.Chart.{chartOf, refusalText, chartText, longest, chartLength, chartOutput}
-use Rattle.drawing.proofs.Pieces.{length-put}
+use Rattle.text.proofs.Pieces.{length-put}
 use Rattle.drawing.proofs.Lines.{chart-short, refusal-short}
 
 module _ (file out : List ℕ) where

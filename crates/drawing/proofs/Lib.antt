@@ -1,3 +1,2 @@
-pub mod Pieces
 pub mod Lines
 pub mod Drawn

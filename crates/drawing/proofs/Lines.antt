@@ -11,9 +11,9 @@ use Rattle.machine.specs.declared.Slot.{Slot}
 use Rattle.machine.specs.declared.State.{State}
 use Rattle.machine.proofs.Connectives.{Value, passed, failed, value}
 use Rattle.machine.proofs.RunStates.{stateAfter}
-use Rattle.drawing.specs.Text.{decimal}
+use Rattle.text.specs.Text.{decimal}
 use Rattle.drawing.specs.Chart.{headerText, slotText, rowText, rowsText, timesText, chartOf, refusalText, longest}
-use Rattle.drawing.proofs.Pieces.{decimal-short}
+use Rattle.text.proofs.Pieces.{decimal-short}
 
 pub slot-filled : (s : Slot) → s .filled ≡ true → slotText s ≡ (32 ∷ []) ++ decimal (s .index) ++ (58 ∷ []) ++ decimal (s .count)
 unfolding slotText

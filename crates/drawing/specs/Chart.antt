@@ -12,19 +12,13 @@ use Rattle.machine.specs.declared.Slot.{Slot}
 use Rattle.machine.specs.declared.State.{State}
 use Rattle.record.specs.Body.{traceOf}
 use Rattle.job.specs.Open.{openRefusal, openBody}
-use Rattle.drawing.specs.Text.{put, decimal}
-
-abbrev space : ℕ
-space = 32
+use Rattle.text.specs.Text.{space, newline, put, decimal}
 
 abbrev dash : ℕ
 dash = 45
 
 abbrev colon : ℕ
 colon = 58
-
-abbrev newline : ℕ
-newline = 10
 
 -- `cycle IF ID EX MEM ST WB`, "the header line shown below"
 abbrev pub headerText : List ℕ

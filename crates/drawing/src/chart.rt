@@ -3,7 +3,7 @@ ghost use mathlib.Core.Path.{_≡_};
 ghost use Prim.Native.Nat.{_+_, _≤_, min};
 ghost use lib.ListN.{length};
 ghost use Rattle.record.specs.Body.{traceOf, bodyRefusal};
-ghost use Rattle.drawing.specs.Text.{Wrote};
+ghost use Rattle.text.specs.Text.{Wrote};
 ghost use Rattle.drawing.specs.Chart.{
   longest,
   refusalText,
@@ -13,11 +13,11 @@ ghost use Rattle.drawing.specs.Chart.{
 };
 ghost use Rattle.drawing.specs.Chart.{timesText};
 use crate::rows::put_rows;
-use crate::text::put_byte;
-use crate::text::put_decimal;
-use crate::text::put_text;
 use job::cut;
 use job::locate;
+use text::put_byte;
+use text::put_decimal;
+use text::put_text;
 use timing::best_worst;
 
 // Room for any chart: the header, 1,001 rows and the last line, a number taken as ten digits.

@@ -1,7 +1,6 @@
 // The chart of a job file's first trace, as text in a lent output.
 pub mod chart;
 mod rows;
-mod text;
 
 pub use chart::CHART_BYTES;
 pub use chart::draw;

@@ -5,13 +5,13 @@ ghost use lib.ListN.{length};
 ghost use Rattle.machine.specs.Instruction.{miss};
 ghost use Rattle.machine.specs.Time.{settle};
 ghost use Rattle.record.specs.Body.{traceOf, bodyRefusal};
-ghost use Rattle.drawing.specs.Text.{Wrote};
+ghost use Rattle.text.specs.Text.{Wrote};
 ghost use Rattle.drawing.specs.Chart.{slotText, rowText, rowsText};
-use crate::text::put_byte;
-use crate::text::put_decimal;
 use machine::Slot;
 use machine::State;
 use pipeline::next_worst;
+use text::put_byte;
+use text::put_decimal;
 
 fn put_slot(out: &mut [u8], at: usize, s: Slot) -> usize
     requires { ⌜ at + 22 ≤ length (now out) ⌝ }

@@ -1,4 +1,3 @@
-pub mod Put
 pub mod WrittenTable
 pub mod WriteAnswer
 pub mod FileBytes

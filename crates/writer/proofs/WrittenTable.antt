@@ -9,7 +9,7 @@ use lib.Seq.{length-take-le}
 use Rattle.record.specs.Body.{halfBytes}
 use Rattle.job.specs.Layout.{headerSize, entrySize, entryAt, bodyStart}
 use Rattle.writer.specs.Write.{count, wordBytes, entryBytes, tableOf}
-use Rattle.writer.proofs.Put.{put-next}
+use Rattle.text.proofs.Placed.{put-next}
 
 pub table-zero : (counts : List ℕ) → tableOf counts 0 ≡ []
 unfolding tableOf

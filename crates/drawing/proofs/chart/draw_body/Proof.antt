@@ -9,7 +9,7 @@ use Rattle.record.specs.Body.{traceOf, bodyRefusal}
 use Rattle.timing.specs.Answers.{bestWorstAnswer}
 use Rattle.timing.specs.declared.calls.BestWorst.{BestWorst}
 use Rattle.drawing.specs.Chart.{rowsText, timesText, chartOf}
-use Rattle.drawing.proofs.Pieces.{wrote-then, as-text}
+use Rattle.text.proofs.Pieces.{wrote-then, as-text}
 use Rattle.drawing.proofs.Lines.{rows-short}
 use borrow.Author.Needs.{needs}
 use Rattle.drawing.proofs.chart.draw_body.Statement.{statement}
@@ -19,7 +19,7 @@ use Rattle.drawing.proofs.chart.draw_body.Lts as lts
 use Rattle.drawing.proofs.chart.put_times.Reads as put-times-reads
 use Rattle.drawing.proofs.chart.smaller.Reads as smaller-reads
 use Rattle.drawing.proofs.rows.put_rows.Reads as put-rows-reads
-use Rattle.drawing.proofs.text.put_text.Reads as put-text-reads
+use Rattle.text.proofs.put_text.Reads as put-text-reads
 use Rattle.timing.proofs.best_worst.Reads as best-worst-reads
 
 -- an accepted body has its times

@@ -1,15 +1,15 @@
 -- `drawing::chart::draw_refusal` meets its contract.
 use native.Mathlib.Omega.{arith}
 use Rattle.drawing.specs.Chart.{refusalText}
-use Rattle.drawing.proofs.Pieces.{wrote-then, decimal-short}
+use Rattle.text.proofs.Pieces.{wrote-then, decimal-short}
 use borrow.Author.Needs.{needs}
 use Rattle.drawing.proofs.chart.draw_refusal.Statement.{statement}
 use Rattle.drawing.proofs.chart.draw_refusal.Tie as tie
 use Rattle.drawing.proofs.chart.draw_refusal.Reads as reads
 use Rattle.drawing.proofs.chart.draw_refusal.Lts as lts
-use Rattle.drawing.proofs.text.put_byte.Reads as put-byte-reads
-use Rattle.drawing.proofs.text.put_decimal.Reads as put-decimal-reads
-use Rattle.drawing.proofs.text.put_text.Reads as put-text-reads
+use Rattle.text.proofs.put_byte.Reads as put-byte-reads
+use Rattle.text.proofs.put_decimal.Reads as put-decimal-reads
+use Rattle.text.proofs.put_text.Reads as put-text-reads
 
 -- src/chart.rt:49:31
 slice-aggregate-put-text : tie.Need-slice-aggregate-put-text

@@ -2,15 +2,15 @@
 use native.Mathlib.Omega.{arith}
 use mathlib.Core.Path.{_∙_}
 use Rattle.drawing.specs.Chart.{timesText}
-use Rattle.drawing.proofs.Pieces.{wrote-then, decimal-short}
+use Rattle.text.proofs.Pieces.{wrote-then, decimal-short}
 use borrow.Author.Needs.{needs}
 use Rattle.drawing.proofs.chart.put_times.Statement.{statement}
 use Rattle.drawing.proofs.chart.put_times.Tie as tie
 use Rattle.drawing.proofs.chart.put_times.Reads as reads
 use Rattle.drawing.proofs.chart.put_times.Lts as lts
-use Rattle.drawing.proofs.text.put_byte.Reads as put-byte-reads
-use Rattle.drawing.proofs.text.put_decimal.Reads as put-decimal-reads
-use Rattle.drawing.proofs.text.put_text.Reads as put-text-reads
+use Rattle.text.proofs.put_byte.Reads as put-byte-reads
+use Rattle.text.proofs.put_decimal.Reads as put-decimal-reads
+use Rattle.text.proofs.put_text.Reads as put-text-reads
 
 -- src/chart.rt:38:36
 slice-aggregate-put-text : tie.Need-slice-aggregate-put-text

@@ -2,7 +2,7 @@
 use native.Mathlib.Omega.{arith}
 use mathlib.Core.Path.{_∙_}
 use Rattle.drawing.specs.Chart.{rowText}
-use Rattle.drawing.proofs.Pieces.{wrote-then, decimal-short}
+use Rattle.text.proofs.Pieces.{wrote-then, decimal-short}
 use Rattle.drawing.proofs.Lines.{slot-short}
 use borrow.Author.Needs.{needs}
 use Rattle.drawing.proofs.rows.put_row.Statement.{statement}
@@ -10,8 +10,8 @@ use Rattle.drawing.proofs.rows.put_row.Tie as tie
 use Rattle.drawing.proofs.rows.put_row.Reads as reads
 use Rattle.drawing.proofs.rows.put_row.Lts as lts
 use Rattle.drawing.proofs.rows.put_slot.Reads as put-slot-reads
-use Rattle.drawing.proofs.text.put_byte.Reads as put-byte-reads
-use Rattle.drawing.proofs.text.put_decimal.Reads as put-decimal-reads
+use Rattle.text.proofs.put_byte.Reads as put-byte-reads
+use Rattle.text.proofs.put_decimal.Reads as put-decimal-reads
 
 -- src/rows.rt:33:9
 put-decimal-requires : tie.Need-put-decimal-requires

@@ -11,9 +11,9 @@ use Rattle.machine.specs.State.{placeOf, stateOf, Orderly}
 use Rattle.machine.specs.declared.State.{State}
 use Rattle.machine.proofs.RunStates.{stateAfter, run-starts, run-orderly, step-run}
 use Rattle.record.specs.Body.{traceOf}
-use Rattle.drawing.specs.Text.{Wrote}
+use Rattle.text.specs.Text.{Wrote}
 use Rattle.drawing.specs.Chart.{rowText, rowsText}
-use Rattle.drawing.proofs.Pieces.{wrote-nothing, wrote-then, as-text}
+use Rattle.text.proofs.Pieces.{wrote-nothing, wrote-then, as-text}
 use Rattle.drawing.proofs.Lines.{rows-short}
 use Rattle.drawing.proofs.rows.put_rows.Statement.{statement}
 use Rattle.drawing.proofs.rows.put_rows.Tie as tie

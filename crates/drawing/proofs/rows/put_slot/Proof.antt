@@ -2,7 +2,7 @@
 use native.Mathlib.Omega.{arith}
 use mathlib.Core.Path.{sym, _∙_}
 use borrow.Author.Needs.{needs}
-use Rattle.drawing.proofs.Pieces.{wrote-then, as-text, decimal-short}
+use Rattle.text.proofs.Pieces.{wrote-then, as-text, decimal-short}
 use Rattle.drawing.proofs.Lines.{slot-filled, slot-empty}
 use Rattle.drawing.proofs.rows.put_slot.Statement.{statement}
 use Rattle.drawing.proofs.rows.put_slot.Tie as tie

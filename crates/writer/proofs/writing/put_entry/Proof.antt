@@ -1,4 +1,4 @@
-use Rattle.writer.proofs.Put.{put-both}
+use Rattle.text.proofs.Placed.{put-both}
 use Rattle.writer.specs.Write.{wordBytes}
 use Rattle.record.specs.Body.{halfBytes}
 use native.Mathlib.Omega.{arith}

@@ -1,4 +1,4 @@
-use Rattle.writer.proofs.Put.{put-part}
+use Rattle.text.proofs.Placed.{put-part}
 use borrow.Author.Needs.{needs}
 use Rattle.writer.proofs.writing.put_records.Statement.{statement}
 use Rattle.writer.proofs.writing.put_records.Tie as tie

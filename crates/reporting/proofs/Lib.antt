@@ -1,0 +1,5 @@
+pub mod Words
+pub mod Flags
+pub mod Columns
+pub mod Fits
+pub mod Given

@@ -1,0 +1,19 @@
+-- `reporting::figures::unknown_of` meets its contract: numbers above 1 stand for unknown.
+use Rattle.reporting.proofs.Flags.{flag-known, flag-unknown}
+use native.Mathlib.Omega.{arith}
+use mathlib.Core.Path.{sym}
+use Rattle.reporting.proofs.figures.unknown_of.Statement.{statement}
+use Rattle.reporting.proofs.figures.unknown_of.Tie as tie
+use Rattle.reporting.proofs.figures.unknown_of.Reads as reads
+use Rattle.reporting.proofs.figures.unknown_of.Lts as lts
+
+-- src/figures.rt:26:1
+returns : tie.Need-returns
+returns c = (sym (flag-unknown _ (c .if1 .taken)), omega arith)
+
+-- src/figures.rt:26:1
+returns-2 : tie.Need-returns-2
+returns-2 c = (sym (flag-known _ (c .if1 .left)), omega arith)
+
+pub unknown-of-spec : {M : Type 1} → statement M
+unknown-of-spec = tie.close (tie.spec returns returns-2)

@@ -1,0 +1,3 @@
+pub mod Deadline
+pub mod Report
+pub mod Claims

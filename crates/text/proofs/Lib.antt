@@ -1,0 +1,3 @@
+pub mod Placed
+pub mod Pieces
+pub mod Right

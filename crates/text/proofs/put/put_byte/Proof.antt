@@ -1,0 +1,31 @@
+-- `text::put::put_byte` meets its contract.
+use mathlib.Core.List.{_∷_, []}
+use mathlib.Core.Path.{refl}
+use native.Mathlib.Omega.{arith}
+use lib.Seq.{sets-eq}
+use Rattle.text.specs.Text.{put}
+use borrow.Author.Needs.{needs}
+use Rattle.text.proofs.put.put_byte.Statement.{statement}
+use Rattle.text.proofs.put.put_byte.Tie as tie
+use Rattle.text.proofs.put.put_byte.Reads as reads
+use Rattle.text.proofs.put.put_byte.Lts as lts
+
+-- src/put.rt:12:5
+slice-write-out : tie.Need-slice-write-out
+slice-write-out c = search needs
+
+-- src/put.rt:13:5
+add-result : tie.Need-add-result
+add-result c = search needs
+
+-- src/put.rt:8:1
+same-length : tie.Need-same-length
+same-length c = search needs
+
+-- src/put.rt:8:1
+returns : tie.Need-returns
+unfolding put
+returns c = let a = c .args in (refl, sets-eq (a .b ∷ []) (a .out .now) (a .at) (omega (arith, c .pre)), omega (arith, c .pre))
+
+pub put-byte-spec : {M : Type 1} → statement M
+put-byte-spec = tie.close (tie.spec slice-write-out add-result same-length returns)
