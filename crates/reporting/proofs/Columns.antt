@@ -1,11 +1,9 @@
 -- How wide the columns and the lines are, the margin's text by cases, and where a text of a known width ends.
-use Prim.Native.Nat.{ℕ, suc, _+_, _-_, _≤_, _<_}
-use mathlib.Core.Bool.{true, false}
+use Prim.Native.Nat.{ℕ, _+_, _-_, _≤_, _<_}
 use mathlib.Core.List.{List, [], _∷_, _++_}
-use mathlib.Core.Path.{_≡_, refl, sym, ap, _∙_}
+use mathlib.Core.Path.{_≡_, refl, ap, _∙_}
 use native.Mathlib.Omega.{arith}
 use borrow.Author.Tests.{eq-eqb, ne-eqb, lt-ltb, le-ltb}
-use lib.Dec.{ltb, eqb}
 use lib.ListN.{length, length-append}
 use Rattle.machine.proofs.Numbers.{Tri, less, equal, more, tri}
 use Rattle.text.specs.Text.{newline, Wrote, decimal, spaces, right}

@@ -1,18 +1,18 @@
 -- What `report` gives is its answer and its output: on a refusal, where the deadlines or the room do not serve, and with the report; and the report
 -- lies in the output.
-use Prim.Native.Nat.{ℕ, _+_, _≤_, _<_}
+use Prim.Native.Nat.{ℕ, _≤_, _<_}
 use mathlib.Core.Bool.{true, false}
 use mathlib.Core.List.{List}
 use mathlib.Core.Path.{_≡_, refl, sym, ap, _∙_}
 use native.Mathlib.Omega.{arith}
 use borrow.Author.Tests.{eq-eqb, ne-eqb, le-leb, lt-leb, leb-true, eqb-true}
-use lib.Dec.{eqb, leb}
+use lib.Dec.{eqb}
 use lib.ListN.{length, take}
 use lib.Seq.{length-take-le}
 use Rattle.machine.proofs.Connectives.{Value, passed, failed, value, and-l, and-r, and-both, and-failed-l, and-failed-r}
 use Rattle.job.specs.Layout.{traces}
 use Rattle.job.specs.Open.{fileRefusal}
-use Rattle.text.specs.Text.{put, Wrote}
+use Rattle.text.specs.Text.{Wrote}
 use Rattle.text.proofs.Pieces.{length-put}
 use Rattle.reporting.specs.Report.{reportText, longest, serves, written, reportAnswer, reportOutput}
 use Rattle.reporting.specs.declared.whole.Reported.{Reported}

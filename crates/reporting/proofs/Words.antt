@@ -1,5 +1,5 @@
 -- A word read digit by digit: what is read so far and what is left make the same number as the whole, which is never below what is read.
-use Prim.Native.Nat.{ℕ, suc, _+_, _*_, _-_, _≤_, _<_}
+use Prim.Native.Nat.{ℕ, _+_, _*_, _-_, _≤_, _<_}
 use mathlib.Core.Bool.{true, false}
 use mathlib.Core.List.{List, [], _∷_}
 use mathlib.Core.Path.{_≡_, refl, sym, ap, ap₂, _∙_}
@@ -10,7 +10,6 @@ use lib.ListN.{length, getD, drop}
 use lib.Seq.{drop-cons, drop-length}
 use Rattle.machine.proofs.Connectives.{and-l, and-r, and-both, and-failed-l, and-failed-r, and-left}
 use Rattle.reporting.specs.Deadline.{isDigit, allDigits, numberFrom, isDeadline, noDeadline, deadlineOf}
-use Rattle.reporting.specs.declared.deadlines.Deadline.{Deadline}
 
 pub digit-within : (byte : ℕ) → isDigit byte ≡ true → (48 ≤ byte) × (byte ≤ 57)
 unfolding isDigit

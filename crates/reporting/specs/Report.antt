@@ -2,12 +2,12 @@
 -- deadline, and the margin with its sign, `+`, `-` or `0`, first on the line and aligned, since that is the figure people look for; last a line that
 -- says how many deadlines are met. Columns stay aligned for the largest values."
 use Prim.Native.Nat.{ℕ, zero, suc, _+_, _-_}
-use mathlib.Core.Bool.{Bool, true, false, cond}
+use mathlib.Core.Bool.{Bool, cond}
 use mathlib.Core.List.{List, [], _∷_, _++_}
 use lib.Dec.{ltb, leb, eqb}
 use lib.ListN.{length, getD}
 use Rattle.machine.specs.Test.{_and_, _or_}
-use Rattle.machine.specs.Instruction.{Flag, hit, miss, unknown, Instruction, Trace}
+use Rattle.machine.specs.Instruction.{Flag, hit, miss, unknown, Trace}
 use Rattle.machine.specs.Time.{best, worst}
 use Rattle.record.specs.Body.{traceOf}
 use Rattle.job.specs.Layout.{traces}

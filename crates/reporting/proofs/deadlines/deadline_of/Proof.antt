@@ -1,7 +1,7 @@
 -- `reporting::deadlines::deadline_of` meets its contract: at the loop's head the bytes read are digits that make the cycles so far.
 use borrow.Author.Tests.{not-true, not-false}
-use Prim.Native.Nat.{ℕ, _+_, _*_, _-_, _≤_, _<_}
-use mathlib.Core.Path.{_≡_, refl, sym, ap, _∙_}
+use Prim.Native.Nat.{_+_, _*_, _-_, _≤_, _<_}
+use mathlib.Core.Path.{refl, sym, _∙_}
 use native.Mathlib.Omega.{arith}
 use lib.ListN.{length}
 use Rattle.reporting.proofs.Words.{digit-within, Reading, reading-starts, reading-goes, word-empty, word-stray, word-large, word-read}

@@ -1,10 +1,7 @@
 -- `reporting::lines::put_line` meets its contract: the columns and the line's end are one text, of a line's width.
-use Prim.Native.Nat.{_≤_}
 use mathlib.Core.Path.{_∙_}
-use lib.ListN.{length}
 use native.Mathlib.Omega.{arith}
 use Rattle.text.proofs.Pieces.{wrote-then, decimal-short}
-use Rattle.text.specs.Text.{decimal}
 use Rattle.reporting.specs.Report.{lineText}
 use Rattle.reporting.proofs.Columns.{ends, line-width, five-digits, seven-digits}
 use borrow.Author.Needs.{needs}

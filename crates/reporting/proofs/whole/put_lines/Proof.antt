@@ -7,7 +7,7 @@ use lib.ListN.{length}
 use Rattle.job.proofs.Accepted.{open-accepted}
 use Rattle.text.specs.Text.{Wrote}
 use Rattle.text.proofs.Pieces.{wrote-nothing, wrote-then, as-text}
-use Rattle.reporting.specs.Report.{lineText, lineAt, linesText, met, metBelow}
+use Rattle.reporting.specs.Report.{lineText, linesText, met, metBelow}
 use Rattle.reporting.proofs.Fits.{few-traces, line-small}
 use Rattle.reporting.proofs.whole.put_lines.Statement.{statement}
 use Rattle.reporting.proofs.whole.put_lines.Tie as tie

@@ -1,5 +1,5 @@
 -- `reporting::whole::put_report` meets its contract: the header, the lines and the last line are the report.
-use mathlib.Core.Path.{_≡_, ap, ap₂, _∙_}
+use mathlib.Core.Path.{ap, ap₂, _∙_}
 use Rattle.text.specs.Text.{spaces, right}
 use Rattle.text.proofs.Pieces.{wrote-then, as-text}
 use Rattle.reporting.specs.Report.{headerText, column, linesText, metBelow, lastText, reportText}

@@ -1,6 +1,6 @@
 -- `text::aligned::digits` meets its contract: a number has one digit more than its tenth.
 use mathlib.Core.List.{List}
-use mathlib.Core.Path.{_≡_, sym, ap}
+use mathlib.Core.Path.{sym, ap}
 use native.Mathlib.Omega.{arith}
 use lib.ListN.{length}
 use Rattle.text.proofs.Pieces.{decimal-one, decimal-grows, decimal-short}

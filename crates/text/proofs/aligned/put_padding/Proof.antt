@@ -1,6 +1,6 @@
 -- `text::aligned::put_padding` meets its contract: at the loop's head as many spaces are put as the column has been filled by.
-use Prim.Native.Nat.{ℕ, suc, _+_, _-_, _≤_}
-use mathlib.Core.Path.{_≡_, refl, sym, ap, _∙_}
+use Prim.Native.Nat.{suc, _+_, _-_, _≤_}
+use mathlib.Core.Path.{_≡_, refl, ap, _∙_}
 use Rattle.text.specs.Text.{Wrote, spaces}
 use Rattle.text.proofs.Pieces.{wrote-nothing, wrote-then, as-text}
 use Rattle.text.proofs.Right.{length-spaces}
