@@ -11,7 +11,7 @@ use Rattle.reporting.proofs.whole.report.Tie as tie
 use Rattle.reporting.proofs.whole.report.Reads as reads
 use Rattle.reporting.proofs.whole.report.Lts as lts
 use Rattle.job.proofs.file_refusal.Reads as file-refusal-reads
-use Rattle.record.proofs.bytes.half.Reads as half-reads
+use Rattle.little_endian.proofs.half.Reads as half-reads
 use Rattle.reporting.proofs.whole.put_report.Reads as put-report-reads
 use Rattle.reporting.proofs.whole.serve.Reads as serve-reads
 
