@@ -39,6 +39,7 @@ enum sic_refusal {
 #define SIC_MAX_INSTRUCTIONS 4096
 #define SIC_MAX_FILE_BYTES 65536
 #define SIC_CHART_BYTES 143201
+#define SIC_REPORT_BYTES 1365
 
 /* A stage's slot: empty, with index and count 0, or an instruction and its remaining count. */
 typedef struct {
@@ -110,6 +111,13 @@ typedef struct {
     bool alike;
 } sic_likeness;
 
+/* `traces` is how many the file has; `length` 0 where no report was written. */
+typedef struct {
+    uint32_t refusal;
+    uint32_t traces;
+    size_t length;
+} sic_reported;
+
 /* Open: where trace `trace`'s body is in the file. 1 to 9, in this order. */
 sic_part sic_open(const uint8_t *file, size_t file_length, uint32_t trace);
 
@@ -149,6 +157,11 @@ sic_likeness sic_alike(const uint8_t *first, size_t first_length, const uint8_t 
 /* The chart of the file's first trace as text, or the line that tells the refusal; its length. An
  * output of fewer than SIC_CHART_BYTES bytes stays as it is, and the length is 0. */
 size_t sic_chart(const uint8_t *file, size_t file_length, uint8_t *out, size_t out_length);
+
+/* The report of the file as text: a line for each trace with its margin, then how many deadlines are
+ * met. `deadlines` has one for all traces or one for each; where it has not, or `out` has fewer than
+ * SIC_REPORT_BYTES bytes, the output stays as it is and the length is 0. 1 to 8. */
+sic_reported sic_report(const uint8_t *file, size_t file_length, const uint32_t *deadlines, size_t deadlines_length, uint8_t *out, size_t out_length);
 
 #ifdef __cplusplus
 }

@@ -24,6 +24,7 @@ pub const MAX_FILE_BYTES: usize = 65536;
 /// The bytes of a record.
 pub const RECORD_SIZE: usize = 10;
 const CHART_BYTES: usize = 143201;
+const REPORT_BYTES: usize = 1365;
 
 /// A stage's slot; an empty one has index and count 0.
 #[derive(Clone, Copy, Debug, Default, PartialEq, Eq)]
@@ -184,4 +185,15 @@ pub fn chart(file: &[u8]) -> String {
     let length = unsafe { raw::sic_chart(file.as_ptr(), file.len(), text.as_mut_ptr(), text.len()) };
     text.truncate(length);
     String::from_utf8(text).expect("ASCII")
+}
+
+/// The report of a job file: a line for each trace with its margin, then how many deadlines are met. There is one deadline
+/// for all traces or one for each, else no report. Refuses 1 to 8.
+pub fn report(file: &[u8], deadlines: &[u32]) -> Result<Option<String>, Refusal> {
+    let mut text = vec![0; REPORT_BYTES];
+    let reported = unsafe { raw::sic_report(file.as_ptr(), file.len(), deadlines.as_ptr(), deadlines.len(), text.as_mut_ptr(), text.len()) };
+    answer(reported.refusal, ())?;
+    text.truncate(reported.length);
+    let fits = deadlines.len() == 1 || deadlines.len() == reported.traces as usize;
+    Ok(fits.then(|| String::from_utf8(text).expect("ASCII")))
 }

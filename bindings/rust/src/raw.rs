@@ -59,6 +59,13 @@ pub struct Likeness {
     pub alike: bool,
 }
 
+#[repr(C)]
+pub struct Reported {
+    pub refusal: u32,
+    pub traces: u32,
+    pub length: usize,
+}
+
 extern "C" {
     pub fn sic_open(file: *const u8, file_length: usize, trace: u32) -> Part;
     pub fn sic_write(counts: *const u16, traces: usize, records: *const u8, records_length: usize, out: *mut u8, out_length: usize) -> Written;
@@ -73,4 +80,12 @@ extern "C" {
     pub fn sic_margin(body: *const u8, body_length: usize, deadline: u32) -> DeadlineMargin;
     pub fn sic_alike(first: *const u8, first_length: usize, second: *const u8, second_length: usize) -> Likeness;
     pub fn sic_chart(file: *const u8, file_length: usize, out: *mut u8, out_length: usize) -> usize;
+    pub fn sic_report(
+        file: *const u8,
+        file_length: usize,
+        deadlines: *const u32,
+        deadlines_length: usize,
+        out: *mut u8,
+        out_length: usize,
+    ) -> Reported;
 }

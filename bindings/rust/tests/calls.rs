@@ -153,3 +153,19 @@ fn the_chart_of_d() {
     assert!(chart.ends_with("\n8 - - - - - -\nworst 8 best 8\n"));
     assert_eq!(sic::chart(&[]), "refused 2\n");
 }
+
+#[test]
+fn a_report_has_a_line_for_each_trace() {
+    let file = write(&[1, 2], &encode(&[plain(); 3]), 100).unwrap();
+    let both = sic::report(&file, &[6, 6]).unwrap().unwrap();
+    let lines: Vec<Vec<&str>> = both.lines().map(|l| l.split_whitespace().collect()).collect();
+    assert_eq!(lines[0], ["margin", "trace", "instructions", "unknown", "best", "worst", "deadline"]);
+    assert_eq!(lines[1], ["0", "0", "1", "0", "6", "6", "6"]);
+    assert_eq!(lines[2], ["-1", "1", "2", "0", "7", "7", "6"]);
+    assert_eq!(lines[3].join(" "), "1 of 2 deadlines met");
+    assert_eq!(sic::report(&file, &[7]).unwrap(), sic::report(&file, &[7, 7]).unwrap());
+    assert_eq!(sic::report(&file, &[7, 7, 7]), Ok(None));
+    assert_eq!(sic::report(&file, &[]), Ok(None));
+    assert_eq!(sic::report(&[0, 0], &[]).unwrap().unwrap().lines().last(), Some("0 of 0 deadlines met"));
+    assert_eq!(number(sic::report(&file[1..], &[7])), 3);
+}

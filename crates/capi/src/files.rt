@@ -1,11 +1,14 @@
-// Job files and bodies: Open, Write, the body's check, reading a record, the chart.
+// Job files and bodies: Open, Write, the body's check, reading a record, the chart, the
+// report.
 ghost use mathlib.Core.Path.{_≡_};
 ghost use lib.ListN.{length, take, drop};
 ghost use Rattle.record.specs.Body.{bodyRefusal, readAnswer};
 ghost use Rattle.job.specs.Open.{openRefusal, openBody};
 ghost use Rattle.writer.specs.Write.{writeAnswer, writeOutput};
 ghost use Rattle.drawing.specs.Chart.{chartLength, chartOutput};
+ghost use Rattle.reporting.specs.Report.{reportAnswer, reportOutput};
 use record::Read;
+use reporting::Reported;
 use writer::Written;
 
 // A part of a file: where it starts and how long it is.
@@ -57,4 +60,11 @@ pub extern "C" fn sic_chart(file: &[u8], out: &mut [u8]) -> usize
     ensures { λ r. ⌜ (r ≡ chartLength (now (file .entry)) (length (now (out .entry)))) × (now (out .exit) ≡ chartOutput (now (file .entry)) (now (out .entry))) ⌝ }
 {
     drawing::draw(file, out)
+}
+
+#[no_mangle]
+pub extern "C" fn sic_report(file: &[u8], deadlines: &[u32], out: &mut [u8]) -> Reported
+    ensures { λ r. ⌜ (r ≡ reportAnswer (now (file .entry)) (now (deadlines .entry)) (length (now (out .entry)))) × (now (out .exit) ≡ reportOutput (now (file .entry)) (now (deadlines .entry)) (now (out .entry))) ⌝ }
+{
+    reporting::report(file, deadlines, out)
 }

@@ -10,6 +10,7 @@ pub use files::sic_chart;
 pub use files::sic_check;
 pub use files::sic_open;
 pub use files::sic_record;
+pub use files::sic_report;
 pub use files::sic_write;
 pub use states::sic_advance;
 pub use states::sic_run;

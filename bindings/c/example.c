@@ -1,0 +1,46 @@
+/* Each call once, from C: a load whose access is unknown, then a plain instruction. */
+#include "sic.h"
+#include <stdio.h>
+
+static const uint8_t task[20] = {1, 8, 0, 0, 1, 0, 1, 0, 10, 0, 0, 0, 1, 0, 0, 0, 1, 0, 0, 0};
+static const uint8_t plain[10] = {0, 0, 0, 0, 0, 0, 1, 0, 0, 0};
+
+static void times(void) {
+    sic_times t = sic_best_worst(task, sizeof task);
+    sic_slack late = sic_margin(task, sizeof task, 10);
+    sic_likeness same = sic_alike(plain, sizeof plain, plain, sizeof plain);
+    printf("best %u, worst %u, margin %lld\n", t.best, t.worst, (long long)late.margin);
+    printf("finish %u, of an unknown flag refused %u\n", sic_finish(plain, sizeof plain).time, sic_finish(task, sizeof task).refusal);
+    printf("alike %d, of a cut body refused %u\n", same.alike, sic_check(plain, 9));
+}
+
+static void states(void) {
+    sic_state s = sic_start();
+    uint32_t refusal = sic_advance(&s, plain, sizeof plain);
+    sic_stepped next = sic_step(plain, sizeof plain, s);
+    sic_ran run = sic_run(plain, sizeof plain, 100);
+    printf("advance %u, fetched %u, IF %d; step: ID %d\n", refusal, s.fetched, s.IF.filled, next.state.ID.filled);
+    printf("run %u cycles, left %d\n", run.cycles, run.left);
+    s.fetched = 2;
+    printf("not orderly: refused %u\n", sic_step(plain, sizeof plain, s).refusal);
+}
+
+static void files(void) {
+    static uint8_t file[SIC_MAX_FILE_BYTES], text[SIC_CHART_BYTES];
+    const uint16_t counts[2] = {2, 0};
+    const uint32_t deadline = 20;
+    sic_written w = sic_write(counts, 2, task, sizeof task, file, sizeof file);
+    sic_part part = sic_open(file, w.length, 0);
+    sic_read r = sic_record(file + part.start, part.length, 0);
+    sic_reported report = sic_report(file, w.length, &deadline, 1, text, sizeof text);
+    printf("file of %u bytes, body at %zu of %zu, data latency %u\n", w.length, part.start, part.length, r.fields.data_latency);
+    printf("%.*s", (int)report.length, (const char *)text);
+    printf("%.*s", (int)sic_chart(file, 1, text, sizeof text), (const char *)text);
+}
+
+int main(void) {
+    times();
+    states();
+    files();
+    return 0;
+}
