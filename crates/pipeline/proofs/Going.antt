@@ -1,16 +1,19 @@
 -- Who could move, and what is filled, bit by bit: where no instruction waits for another, none is held back.
 use Prim.Native.Nat.{ℕ, zero, suc}
-use mathlib.Core.Bool.{Bool, false, not, _||_}
+use mathlib.Core.Bool.{Bool, true, false, not, _||_}
 use mathlib.Core.Path.{_≡_, refl, sym, ap, _∙_}
+use lib.Dec.{ltb}
 use Rattle.machine.specs.Test.{_and_}
-use Rattle.machine.specs.Instruction.{Instruction, Trace}
+use Rattle.machine.specs.Instruction.{Instruction, Trace, instruction}
 use Rattle.machine.specs.Rules.{Stage, pre, IF, ID, EX, MEM, ST, WB}
 use Rattle.machine.specs.declared.Slot.{Slot}
 use Rattle.machine.specs.declared.State.{State}
 use Rattle.machine.proofs.Connectives.{and-failed-r, and-true, or-failed}
 use Rattle.machine.proofs.Stages.{stageAt}
-use Rattle.machine.proofs.BySlots.{waitsFor, holdsBack, heldBack}
-use Rattle.pipeline.specs.Bits.{bitsOf}
+use Rattle.machine.proofs.BySlots.{pending, waitsFor, holdsBack, heldBack}
+use Rattle.record.specs.declared.layout.Fields.{Fields}
+use Rattle.record.specs.Rules.{kindOf, instructionOf}
+use Rattle.pipeline.specs.Bits.{bitsOf, pendingSlot}
 use Rattle.pipeline.specs.declared.moving.Bits.{Bits}
 use Rattle.pipeline.proofs.Joined.{either-of}
 
@@ -26,6 +29,32 @@ waits-elsewhere (suc (suc (suc (suc zero)))) a b c i j = refl
 waits-elsewhere (suc (suc (suc (suc (suc zero))))) a b c i j = refl
 waits-elsewhere (suc (suc (suc (suc (suc (suc zero)))))) a b c i j = refl
 waits-elsewhere (suc (suc (suc (suc (suc (suc (suc n))))))) a b c i j = refl
+
+pub is-pending
+    : (trace : Trace) (k : Stage) (held : Slot) (f : Fields) {r : Bool} →
+    instructionOf f ≡ instruction trace (held .index) →
+    r ≡ (held .filled and pending (kindOf (f .kind)) (record { stage = k; count = held .count })) →
+    r ≡ pendingSlot trace k held
+unfolding instructionOf
+is-pending trace k held f e q = q ∙ ap (λ (j : Instruction). held .filled and pending (j .kind) (record { stage = k; count = held .count })) e
+
+-- a slot holds another back if it is pending, older and waited for
+reorder : (a b c d : Bool) → (a and b and c and d) ≡ (a and c and (b and d))
+unfolding _and_
+reorder true true c d = refl
+reorder true false true d = refl
+reorder true false false d = refl
+reorder false b c d = refl
+
+pub holds
+    : (trace : Trace) (at : Stage) (i : ℕ) (k : Stage) (held : Slot) {pending r : Bool} {this that : Instruction} →
+    this ≡ instruction trace i →
+    that ≡ instruction trace (held .index) →
+    pending ≡ pendingSlot trace k held →
+    r ≡ (pending and ltb (held .index) i and waitsFor at this that) →
+    r ≡ holdsBack trace at i k held
+unfolding holdsBack
+holds trace at i k held e f p q = q ∙ rw (e, f, p) (reorder _ _ _ _)
 
 -- the six slots' answers joined
 pub held-by

@@ -6,5 +6,6 @@ pub mod Going
 pub mod Slots
 pub mod Answer
 pub mod RunState
+pub mod Seating
 pub mod RunPass
 pub mod RunAnswer

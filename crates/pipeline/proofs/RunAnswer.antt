@@ -17,10 +17,10 @@ use Rattle.machine.proofs.Finish.{all-left-is}
 use Rattle.machine.proofs.RunStates.{stateAfter, run-stops-state}
 use Rattle.record.specs.Body.{records, traceOf, settledRefusal}
 use Rattle.record.proofs.Encoding.{length-traceOf}
+use Rattle.schedule.specs.declared.levels.Window.{Window}
 use Rattle.schedule.proofs.Pass.{pass-ends}
 use Rattle.pipeline.specs.Run.{ranFor, runAnswer}
-use Rattle.pipeline.specs.Placing.{stateBelow, Passed}
-use Rattle.pipeline.specs.declared.running.Pass.{Pass}
+use Rattle.pipeline.specs.Placing.{stateBelow, stateSeated, Passed}
 use Rattle.pipeline.specs.declared.running.Ran.{Ran}
 use Rattle.pipeline.proofs.RunState.{state-ends}
 
@@ -33,32 +33,34 @@ left-is : (trace : Trace) (limit : ℕ) → leb (finish trace) limit ≡ allLeft
 left-is trace limit = left-by (finish trace) limit (tri (finish trace) limit) ∙ sym (all-left-is trace (min limit (finish trace)))
 
 -- the pass has come to the end
-module _ (body : List ℕ) (limit k : ℕ) {p : Pass} (at : Passed body limit k p) (all : k ≡ records body) where
+module _ (body : List ℕ) (limit k : ℕ) {w : Window} {seats : List ℕ} (at : Passed body limit k w seats) (all : k ≡ records body) where
   abbrev trace : Trace
   trace = traceOf body
 
   end : k ≡ length trace
   end = all ∙ sym (length-traceOf body)
 
-  finish-is : p .window .finish ≡ finish trace
+  finish-is : w .finish ≡ finish trace
   finish-is = pass-ends trace k (at .window) end
 
-  state-is : p .state ≡ stateAfter trace (min limit (finish trace))
+  state-is : stateSeated seats ≡ stateAfter trace (min limit (finish trace))
   state-is =
-      at .state
+      at .state .state
       ∙ ap (stateBelow (after trace limit)) end
       ∙ state-ends (after trace limit) trace
       ∙ sym (run-stops-state trace limit)
 
   pub ran
-      : {cycles : ℕ} →
-      cycles ≡ min limit (p .window .finish) →
-      record { refusal = 0; state = p .state; cycles = cycles; left = leb (p .window .finish) limit } ≡ ranFor trace limit
+      : {state : State} {cycles : ℕ} →
+      state ≡ stateSeated seats →
+      cycles ≡ min limit (w .finish) →
+      record { refusal = 0; state = state; cycles = cycles; left = leb (w .finish) limit } ≡ ranFor trace limit
   unfolding ranFor
-  ran counted =
+  ran read counted =
       let count-is = counted ∙ ap (min limit) finish-is in
       let end-is = ap (λ (n : ℕ). leb n limit) finish-is ∙ left-is trace limit in
-      λ x. record { refusal = 0; state = state-is x; cycles = count-is x; left = end-is x }
+      let read-is = read ∙ state-is in
+      λ x. record { refusal = 0; state = read-is x; cycles = count-is x; left = end-is x }
 
 module _ (body : List ℕ) (limit : ℕ) {refusal : ℕ} (e : refusal ≡ settledRefusal body) where
   pub run-refused

@@ -1,13 +1,12 @@
 -- Run's pass over an accepted body: it begins with the starting state, and at each instruction its calls may be made and together carry it on.
 use Prim.Native.Nat.{ℕ, _+_, _^_, _≤_, _<_}
 use mathlib.Core.List.{List}
-use mathlib.Core.Path.{_≡_, sym, ap, _∙_}
+use mathlib.Core.Path.{_≡_, refl, sym, ap, _∙_}
 use native.Mathlib.Omega.{arith}
-use lib.ListN.{length}
+use lib.ListN.{length, getD, replicate}
 use Rattle.machine.specs.Instruction.{Instruction, Trace, instruction}
 use Rattle.machine.specs.Rules.{after}
 use Rattle.machine.specs.Time.{bound}
-use Rattle.machine.specs.State.{start}
 use Rattle.machine.specs.declared.State.{State}
 use Rattle.machine.proofs.Window as Theory
 use Rattle.machine.proofs.Window.{Times, noWindow, timesFrom, slide, placeAt}
@@ -19,25 +18,21 @@ use Rattle.record.proofs.Accepted.{few-records}
 use Rattle.record.proofs.Encoding.{length-traceOf}
 use Rattle.schedule.specs.Code.{windowOf, numbered, maxTime, Room}
 use Rattle.schedule.specs.declared.levels.Window.{Window}
-use Rattle.schedule.specs.declared.places.Place.{Place}
 use Rattle.schedule.proofs.Accepted.{small, read-instruction}
 use Rattle.schedule.proofs.Pass.{pass-starts, pass-fits, pass-room, pass-slides, pass-place}
-use Rattle.pipeline.specs.Placing.{stateWith, stateBelow, Passed}
-use Rattle.pipeline.specs.declared.running.Pass.{Pass}
+use Rattle.pipeline.specs.Placing.{stateWith, stateBelow, stateSeated, slotSeated, Seated, Rising, Passed}
 use Rattle.pipeline.proofs.RunState.{state-starts, state-grows, fetched-below}
+use Rattle.pipeline.proofs.Seating.{rises}
 
-pub begins
-    : (body : List ℕ) (limit : ℕ) {w : Window} {s : State} →
-    windowOf w ≡ noWindow →
-    s ≡ start →
-    Passed body limit 0 (record { window = w; state = s })
-begins body limit p q =
+pub begins : (body : List ℕ) (limit : ℕ) {w : Window} → windowOf w ≡ noWindow → Passed body limit 0 w (replicate 13 0)
+unfolding stateSeated slotSeated
+begins body limit p =
     record {
       window = pass-starts (traceOf body) p;
-      state = q ∙ sym (state-starts (after (traceOf body) limit));
+      state = record { long = refl; state = sym (state-starts (after (traceOf body) limit)) };
     }
 
-module _ {body : List ℕ} {limit k : ℕ} {before : Pass} (bytes : Bytes body) (here : (bodyRefusal body ≡ 0) × (k < records body) × Passed body limit k before) where
+module _ {body : List ℕ} {limit k : ℕ} {before : Window} {seats : List ℕ} (bytes : Bytes body) (here : (bodyRefusal body ≡ 0) × (k < records body) × Passed body limit k before seats) where
   abbrev trace : Trace
   trace = traceOf body
 
@@ -47,18 +42,20 @@ module _ {body : List ℕ} {limit k : ℕ} {before : Pass} (bytes : Bytes body) 
   is-small : bound trace ≤ maxTime
   is-small = small body bytes (here .0)
 
-  -- the fetched count is at most k
-  pub may-count : before .state .fetched + 1 < 2 ^ 32
-  unfolding stateBelow
-  may-count =
-      omega (arith, ap (λ (s : State). s .fetched) (here .2 .state), fetched-below (after trace limit) k, few-records body (here .0))
+  fetched-few : getD seats 0 0 + 1 < 2 ^ 32
+  unfolding stateBelow stateSeated
+  fetched-few =
+      omega (arith, ap (λ (s : State). s .fetched) (here .2 .state .state), fetched-below (after trace limit) k, few-records body (here .0))
+
+  index-fits : k + 1 < 2 ^ 32
+  index-fits = omega (arith, few-records body (here .0), here .1)
 
   module _ {read : Read} (e : read ≡ readAnswer body k) where
     abbrev this : Instruction
     this = instructionOf (read .fields)
 
     abbrev window : Theory.Window
-    window = windowOf (before .window)
+    window = windowOf before
 
     this-is : this ≡ instruction trace k
     this-is = read-instruction body k (here .1) e
@@ -70,17 +67,17 @@ module _ {body : List ℕ} {limit k : ℕ} {before : Pass} (bytes : Bytes body) 
       pub may-slide : Room this times
       may-slide = pass-room trace is-small k in-trace (here .2 .window) this-is timed
 
-      place-is : {place : Place} → place ≡ numbered (placeAt this times limit) → place ≡ numbered (after trace limit k)
-      place-is placed = placed ∙ ap numbered (pass-place trace is-small k in-trace (here .2 .window) this-is limit timed)
+      pub may-seat : (length seats ≡ 13) × Rising times × (getD seats 0 0 + 1 < 2 ^ 32) × (k + 1 < 2 ^ 32)
+      may-seat = (here .2 .state .long, rises window this timed, fetched-few, index-fits)
 
       pub passes
-          : {place : Place} {slid : Window} {state : State} →
-          place ≡ numbered (placeAt this times limit) →
+          : {slid : Window} {seated : List ℕ} →
           windowOf slid ≡ slide window this times →
-          state ≡ stateWith place k (before .state) →
-          Passed body limit (k + 1) (record { window = slid; state = state })
-      passes placed slid grown =
+          Seated seated (stateWith (numbered (placeAt this times limit)) k (stateSeated seats)) →
+          Passed body limit (k + 1) slid seated
+      passes slid grown =
+          let place-is = ap numbered (pass-place trace is-small k in-trace (here .2 .window) this-is limit timed) in
           record {
             window = pass-slides trace is-small k in-trace (here .2 .window) this-is timed slid;
-            state = grown ∙ rw (place-is placed, here .2 .state) (sym (state-grows (after trace limit) k));
+            state = record { long = grown .long; state = grown .state ∙ rw (place-is, here .2 .state .state) (sym (state-grows (after trace limit) k)) };
           }

@@ -1,19 +1,20 @@
 -- What Run's pass keeps after each instruction, for the pass's own functions; no public contract cites it.
-use Prim.Native.Nat.{ℕ, suc}
+use Prim.Native.Nat.{ℕ, zero, suc, _+_, _≤_}
 use mathlib.Core.Bool.{true, cond}
 use mathlib.Core.List.{List}
 use mathlib.Core.Path.{_≡_}
 use lib.Dec.{eqb}
+use lib.ListN.{length, getD}
 use Rattle.machine.specs.Rules.{Places, pre, IF, ID, EX, MEM, ST, WB, after}
-use Rattle.machine.specs.State.{fetchedBelow, occupantBelow}
+use Rattle.machine.specs.State.{emptySlot, fetchedBelow, occupantBelow}
 use Rattle.machine.specs.declared.Slot.{Slot}
 use Rattle.machine.specs.declared.State.{State}
 use Rattle.machine.proofs.Stages.{level}
-use Rattle.machine.proofs.Window.{windowBefore}
+use Rattle.machine.proofs.Window.{Times, windowBefore}
 use Rattle.record.specs.Body.{traceOf}
 use Rattle.schedule.specs.Code.{windowOf}
+use Rattle.schedule.specs.declared.levels.Window.{Window}
 use Rattle.schedule.specs.declared.places.Place.{Place}
-use Rattle.pipeline.specs.declared.running.Pass.{Pass}
 
 -- one more instruction, k, at its place
 unfoldable pub fetchedWith : Place → ℕ → ℕ
@@ -47,7 +48,40 @@ stateBelow places k =
       WB = occupantBelow places WB k;
     }
 
+-- a slot by two numbers, of which the first is one more than the index, 0 for none
+abbrev pub slotOf : ℕ → ℕ → Slot
+slotOf zero count = emptySlot
+slotOf (suc k) count = record { filled = true; index = k; count = count }
+
+-- the state that the pass has as thirteen numbers: the fetched count, then for each level from 1 to 6 a slot's first number, then the second ones
+unfoldable pub slotSeated : List ℕ → ℕ → Slot
+slotSeated seats at = slotOf (getD seats at 0) (getD seats (6 + at) 0)
+
+unfoldable pub stateSeated : List ℕ → State
+stateSeated seats =
+    record {
+      fetched = getD seats 0 0;
+      IF = slotSeated seats (level IF);
+      ID = slotSeated seats (level ID);
+      EX = slotSeated seats (level EX);
+      MEM = slotSeated seats (level MEM);
+      ST = slotSeated seats (level ST);
+      WB = slotSeated seats (level WB);
+    }
+
+-- the numbers are all there and give the state
+pub record Seated (seats : List ℕ) (s : State) : Type 0 where
+  pub long : length seats ≡ 13
+  pub state : stateSeated seats ≡ s
+
+-- no time is later than that of leaving
+pub record Rising (e : Times) : Type 0 where
+  pub ID : e .ID ≤ e .post
+  pub EX : e .EX ≤ e .post
+  pub MEM : e .MEM ≤ e .post
+  pub last : e .last ≤ e .post
+
 -- the pass over a body has come to instruction k
-pub record Passed (body : List ℕ) (limit k : ℕ) (p : Pass) : Type 0 where
-  pub window : windowOf (p .window) ≡ windowBefore (traceOf body) k
-  pub state : p .state ≡ stateBelow (after (traceOf body) limit) k
+pub record Passed (body : List ℕ) (limit k : ℕ) (w : Window) (seats : List ℕ) : Type 0 where
+  pub window : windowOf w ≡ windowBefore (traceOf body) k
+  pub state : Seated seats (stateBelow (after (traceOf body) limit) k)

@@ -1,14 +1,18 @@
 // Which older instructions hold another back in its stage. Stages are levels, pre 0 to post 7.
 ghost use mathlib.Core.Path.{_≡_};
 ghost use Prim.Native.Nat.{_<_, _≤_};
+ghost use lib.Dec.{ltb};
+ghost use Rattle.machine.specs.Test.{_and_};
 ghost use Rattle.machine.specs.Instruction.{Trace, instruction};
 ghost use Rattle.machine.specs.Rules.{reads};
 ghost use Rattle.machine.specs.declared.State.{State};
 ghost use Rattle.machine.proofs.Stages.{stageAt};
-ghost use Rattle.machine.proofs.BySlots.{pending, waitsFor, holdsBack, heldBack};
+ghost use Rattle.machine.proofs.BySlots.{pending, waitsFor, heldBack};
 ghost use Rattle.machine.proofs.Masks.{goalLevel};
 ghost use Rattle.record.specs.Rules.{kindOf, instructionOf};
 ghost use Rattle.pipeline.specs.Reads.{Reads};
+ghost use Rattle.pipeline.specs.Bits.{bitsOf, pendingIn};
+use crate::moving::Bits;
 use crate::reading::BRANCH;
 use crate::reading::HIT;
 use crate::reading::LOAD;
@@ -66,27 +70,48 @@ fn waits_for(level: u32, i: Fields, j: Fields) -> bool
     false
 }
 
-// The slot at level k holds instruction `index`, with fields i, back at its level.
-fn holds_back(level: u32, i: Fields, index: u32, k: u32, held: Slot, j: Fields) -> bool
-    requires { ⌜ (0 < k) × (k ≤ 7) ⌝ }
-    ensures { λ r. ⌜ ((trace : Trace) →
-        instructionOf i ≡ instruction trace index →
-        instructionOf j ≡ instruction trace (held .index) →
-        r ≡ holdsBack trace (stageAt level) index (stageAt k) held) ⌝ }
+// The slot at the level holds a pending instruction.
+fn slot_pending(level: u32, held: Slot, kind: u32) -> bool
+    requires { ⌜ (0 < level) × (level ≤ 7) ⌝ }
+    ensures { λ r. ⌜ r ≡ (held .filled and pending (kindOf kind) (record { stage = stageAt level; count = held .count })) ⌝ }
 {
-    held.filled & (held.index < index) & (pending(j.kind, k, held.count) & waits_for(level, i, j))
+    held.filled & pending(kind, level, held.count)
 }
 
-pub(crate) fn held_back(level: u32, i: Fields, index: u32, s: State, w: Standing) -> bool
+// Which slots hold a pending instruction, for all that may wait in this cycle.
+pub(crate) fn pending_slots(s: State, w: Standing) -> Bits
+    ensures { λ r. ⌜ ((trace : Trace) → Reads trace s w → r ≡ bitsOf (pendingIn trace s)) ⌝ }
+{
+    Bits {
+        pre: false,
+        IF: slot_pending(1, s.IF, w.IF.kind),
+        ID: slot_pending(2, s.ID, w.ID.kind),
+        EX: slot_pending(3, s.EX, w.EX.kind),
+        MEM: slot_pending(4, s.MEM, w.MEM.kind),
+        ST: slot_pending(5, s.ST, w.ST.kind),
+        WB: slot_pending(6, s.WB, w.WB.kind),
+    }
+}
+
+// An instruction that may be pending, at index `other` with fields j, holds instruction `index`, with
+// fields i, back at its level.
+fn holds_back(level: u32, i: Fields, index: u32, pending: bool, other: u32, j: Fields) -> bool
+    ensures { λ r. ⌜ r ≡ (pending and ltb other index and waitsFor (stageAt level) (instructionOf i) (instructionOf j)) ⌝ }
+{
+    pending & (other < index) & waits_for(level, i, j)
+}
+
+pub(crate) fn held_back(level: u32, i: Fields, index: u32, p: Bits, s: State, w: Standing) -> bool
     ensures { λ r. ⌜ ((trace : Trace) →
         Reads trace s w →
+        p ≡ bitsOf (pendingIn trace s) →
         instructionOf i ≡ instruction trace index →
         r ≡ heldBack trace s (stageAt level) index) ⌝ }
 {
-    holds_back(level, i, index, 1, s.IF, w.IF)
-        | holds_back(level, i, index, 2, s.ID, w.ID)
-        | holds_back(level, i, index, 3, s.EX, w.EX)
-        | holds_back(level, i, index, 4, s.MEM, w.MEM)
-        | holds_back(level, i, index, 5, s.ST, w.ST)
-        | holds_back(level, i, index, 6, s.WB, w.WB)
+    holds_back(level, i, index, p.IF, s.IF.index, w.IF)
+        | holds_back(level, i, index, p.ID, s.ID.index, w.ID)
+        | holds_back(level, i, index, p.EX, s.EX.index, w.EX)
+        | holds_back(level, i, index, p.MEM, s.MEM.index, w.MEM)
+        | holds_back(level, i, index, p.ST, s.ST.index, w.ST)
+        | holds_back(level, i, index, p.WB, s.WB.index, w.WB)
 }

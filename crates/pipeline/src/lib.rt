@@ -5,6 +5,7 @@ mod orderly;
 mod reading;
 pub mod refusal;
 pub mod running;
+mod seats;
 pub mod stepping;
 mod worst;
 

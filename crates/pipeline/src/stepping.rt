@@ -12,6 +12,7 @@ ghost use Rattle.pipeline.specs.Reads.{Reads};
 ghost use Rattle.pipeline.specs.Bits.{bitsOf};
 ghost use Rattle.pipeline.specs.Step.{stepAnswer};
 use crate::hazards::held_back;
+use crate::hazards::pending_slots;
 use crate::moving::Bits;
 use crate::moving::leaving;
 use crate::moving::mask;
@@ -45,11 +46,12 @@ fn counted_down(held: Slot) -> bool
 fn going(n: u32, s: State, w: Standing) -> Bits
     ensures { λ r. ⌜ ((trace : Trace) → Reads trace s w → length trace ≡ n → r ≡ bitsOf (goes trace s)) ⌝ }
 {
+    let p = pending_slots(s, w);
     Bits {
-        pre: (s.fetched < n) & !held_back(0, w.pre, s.fetched, s, w),
+        pre: (s.fetched < n) & !held_back(0, w.pre, s.fetched, p, s, w),
         IF: counted_down(s.IF),
-        ID: counted_down(s.ID) & !held_back(2, w.ID, s.ID.index, s, w),
-        EX: counted_down(s.EX) & !held_back(3, w.EX, s.EX.index, s, w),
+        ID: counted_down(s.ID) & !held_back(2, w.ID, s.ID.index, p, s, w),
+        EX: counted_down(s.EX) & !held_back(3, w.EX, s.EX.index, p, s, w),
         MEM: counted_down(s.MEM),
         ST: counted_down(s.ST),
         WB: counted_down(s.WB),

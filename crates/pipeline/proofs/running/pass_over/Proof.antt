@@ -1,6 +1,6 @@
 -- `pass_over` meets its contract: the window and what the record says allow the calls, and what they give carries the pass on.
 use borrow.Author.Needs.{needs}
-use Rattle.pipeline.proofs.RunPass.{may-count, may-time, may-slide, passes}
+use Rattle.pipeline.proofs.RunPass.{may-time, may-seat, may-slide, passes}
 use Rattle.pipeline.proofs.running.pass_over.Statement.{statement}
 use Rattle.pipeline.proofs.running.pass_over.Tie as tie
 
@@ -10,33 +10,16 @@ fields-at-requires c κs = search needs
 times-from-requires : tie.Need-times-from-requires
 times-from-requires c κs = may-time (λ n. c .before .before .shared-slice-known .given n .fits) (c .before .before .before .pre) (c .before .fields-at .ensures)
 
-place-at-requires : tie.Need-place-at-requires
-place-at-requires c κs = search needs
+seat-requires : tie.Need-seat-requires
+seat-requires c κs = may-seat (λ n. c .before .before .before .before .shared-slice-known .given n .fits) (c .before .before .before .before .before .pre) (c .before .before .before .fields-at .ensures) (c .before .times-from .ensures)
 
 slide-requires : tie.Need-slide-requires
-slide-requires c κs = may-slide (λ n. c .before .before .before .before .shared-slice-known .given n .fits) (c .before .before .before .before .before .pre) (c .before .before .before .fields-at .ensures) (c .before .times-from .ensures)
-
-state-with-requires : tie.Need-state-with-requires
-state-with-requires c κs = may-count (λ n. c .before .before .before .before .before .shared-slice-known .given n .fits) (c .before .before .before .before .before .before .pre)
+slide-requires c κs = may-slide (λ n. c .before .before .before .before .before .shared-slice-known .given n .fits) (c .before .before .before .before .before .before .pre) (c .before .before .before .before .fields-at .ensures) (c .before .before .times-from .ensures)
 
 returns : tie.Need-returns
-returns c =
-    passes
-    (λ n. c .before .before .before .before .before .before .shared-slice-known .given n .fits)
-    (c .before .before .before .before .before .before .before .pre)
-    (c .before .before .before .before .before .fields-at .ensures)
-    (c .before .before .before .times-from .ensures)
-    (c .before .before .place-at .ensures)
-    (c .before .slide .ensures)
-    (c .state-with .ensures)
+returns c = passes (λ n. c .before .before .before .before .before .before .shared-slice-known .given n .fits) (c .before .before .before .before .before .before .before .pre) (c .before .before .before .before .before .fields-at .ensures) (c .before .before .before .times-from .ensures) (c .slide .ensures) (c .before .seat .ensures)
 
 pub pass-over-spec : {M : Type 1} → statement M
 pass-over-spec =
     tie.close
-    (tie.spec
-    fields-at-requires
-    times-from-requires
-    place-at-requires
-    slide-requires
-    state-with-requires
-    returns)
+    (tie.spec fields-at-requires times-from-requires seat-requires slide-requires returns)

@@ -1,0 +1,144 @@
+-- The numbers that Run's pass keeps are a state: an instruction's place in them is its place in the state. As their count is known, what stands
+-- at each after a store is there by computation.
+use Prim.Native.Nat.{ℕ, zero, suc, _+_, _-_, _≤_, _<_}
+use mathlib.Core.Bool.{Bool, true, false, cond}
+use mathlib.Core.List.{List, [], _∷_}
+use mathlib.Core.Path.{_≡_, refl, sym, ap, subst, _∙_}
+use native.Mathlib.Numerals.{add-one, unary-clauses}
+use native.Mathlib.Omega.{arith}
+use borrow.Author.Tests.{lt-ltb, le-ltb}
+use lib.Dec.{ltb}
+use lib.ListN.{length, getD, set, drop, length-set}
+use Rattle.machine.specs.Instruction.{Instruction}
+use Rattle.machine.specs.Rules.{Stage, pre, IF, ID, EX, MEM, ST, WB, post, Place, isStore, entry}
+use Rattle.machine.proofs.Stages.{level}
+use Rattle.machine.proofs.Window.{Times, Window, lastCount, placeAt, timesFrom, enterID, enterEX, enterMEM, enterLast, enterPost}
+use Rattle.schedule.specs.Code.{numbered}
+use Rattle.schedule.specs.declared.places.Place as Code
+use Rattle.schedule.proofs.Cases.{in-pre, in-post}
+use Rattle.pipeline.specs.Placing.{fetchedWith, slotWith, stateWith, slotOf, slotSeated, stateSeated, Seated, Rising}
+
+-- a list by its elements
+abbrev spelled : ℕ → List ℕ → List ℕ
+spelled zero l = []
+spelled (suc n) l = getD l 0 0 ∷ spelled n (drop 1 l)
+
+spells : (n : ℕ) (l : List ℕ) → length l ≡ n → l ≡ spelled n l
+spells zero [] e = refl
+spells zero (x ∷ l) e = absurd (omega (arith, e))
+spells (suc n) [] e = absurd (omega (arith, e))
+spells (suc n) (x ∷ l) e = ap {B = List ℕ} (λ r. x ∷ r) (spells n l (omega (arith, e)))
+
+over : (P : List ℕ → Type 0) (l : List ℕ) → length l ≡ 13 → P (spelled 13 l) → P l
+over P l e p = subst P (sym (spells 13 l e)) p
+
+pub slot-filled : (n count : ℕ) → (n ≡ 0 → ⊥) → record { filled = true; index = n - 1; count = count } ≡ slotOf n count
+slot-filled zero count h = absurd (h refl)
+slot-filled (suc n) count h = simp unary-clauses refl
+
+-- a place in a slot
+record Within (p : Place) : Type 0 where
+  low : 1 ≤ level (p .stage)
+  high : level (p .stage) ≤ 6
+
+slots : (a b c d store : Bool) (k l m n : ℕ) →
+    Within
+    (cond a
+    (record { stage = IF; count = k })
+    (cond b
+    (record { stage = ID; count = 0 })
+    (cond c
+    (record { stage = EX; count = l })
+    (cond d (record { stage = MEM; count = m }) (record { stage = cond store ST WB; count = n })))))
+slots true b c d store k l m n = record { low = omega arith; high = omega arith }
+slots false true c d store k l m n = record { low = omega arith; high = omega arith }
+slots false false true d store k l m n = record { low = omega arith; high = omega arith }
+slots false false false true store k l m n = record { low = omega arith; high = omega arith }
+slots false false false false true k l m n = record { low = omega arith; high = omega arith }
+slots false false false false false k l m n = record { low = omega arith; high = omega arith }
+
+-- an instruction that is fetched and has not left is in a slot
+within : (i : Instruction) (e : Times) (t : ℕ) → e .IF ≤ t → t < e .post → Within (placeAt i e t)
+unfolding placeAt
+within i e t fetched h =
+    rw (le-ltb _ _ fetched, lt-ltb _ _ h)
+    (slots (ltb t (e .ID)) (ltb t (e .EX)) (ltb t (e .MEM)) (ltb t (e .last)) (isStore (i .kind))
+    (entry i IF - (t - e .IF))
+    (entry i EX - (t - e .EX))
+    (entry i MEM - (t - e .MEM))
+    (lastCount i - (t - e .last)))
+
+pub within-seats : (i : Instruction) (e : Times) (t : ℕ) → e .IF ≤ t → t < e .post → {p : Code.Place} → p ≡ numbered (placeAt i e t) → p .level ≤ 6
+within-seats i e t fetched h q = rw q (within i e t fetched h .high)
+
+-- an instruction's times rise
+pub rises : (w : Window) (i : Instruction) {e : Times} → e ≡ timesFrom w i → Rising e
+unfolding timesFrom enterID enterEX enterMEM enterLast enterPost
+rises w i p = rw p (record { ID = omega arith; EX = omega arith; MEM = omega arith; last = omega arith })
+
+-- the numbers with one more fetched, and then with instruction k seated
+abbrev counted : List ℕ → List ℕ
+counted l = set l 0 (suc (getD l 0 0))
+
+abbrev placed : List ℕ → ℕ → ℕ → ℕ → List ℕ
+placed l k at count = set (set (counted l) at (suc k)) (6 + at) count
+
+module _ (k : ℕ) (l : List ℕ) (long : length l ≡ 13) where
+  -- the state that the changed numbers give, for all lists of their length where it is so for one that is spelled
+  abbrev Gives : Place → (List ℕ → List ℕ) → List ℕ → Type 0
+  Gives p changed l = stateSeated (changed l) ≡ stateWith (numbered p) k (stateSeated l)
+
+  grown : (stage : Stage) (count : ℕ) →
+      Within (record { stage = stage; count = count }) →
+      Gives (record { stage = stage; count = count }) (λ l. placed l k (level stage) count) l
+  unfolding stateSeated slotSeated stateWith fetchedWith slotWith
+  grown pre count h = absurd (omega (arith, h .low))
+  grown IF count h = over (Gives (record { stage = IF; count = count }) (λ l. placed l k (level IF) count)) l long refl
+  grown ID count h = over (Gives (record { stage = ID; count = count }) (λ l. placed l k (level ID) count)) l long refl
+  grown EX count h = over (Gives (record { stage = EX; count = count }) (λ l. placed l k (level EX) count)) l long refl
+  grown MEM count h = over (Gives (record { stage = MEM; count = count }) (λ l. placed l k (level MEM) count)) l long refl
+  grown ST count h = over (Gives (record { stage = ST; count = count }) (λ l. placed l k (level ST) count)) l long refl
+  grown WB count h = over (Gives (record { stage = WB; count = count }) (λ l. placed l k (level WB) count)) l long refl
+  grown post count h = absurd (omega (arith, h .high))
+
+  none : Gives (record { stage = pre; count = 0 }) (λ l. l) l
+  unfolding stateWith fetchedWith slotWith
+  none = refl
+
+  gone : Gives (record { stage = post; count = 0 }) counted l
+  unfolding stateSeated slotSeated stateWith fetchedWith slotWith
+  gone = over (Gives (record { stage = post; count = 0 }) counted) l long refl
+
+  module _ (i : Instruction) (e : Times) (t : ℕ) where
+    abbrev place : Code.Place
+    place = numbered (placeAt i e t)
+
+    with-place : {p : Code.Place} → p ≡ place → stateWith p k (stateSeated l) ≡ stateWith place k (stateSeated l)
+    with-place q = ap (λ (p : Code.Place). stateWith p k (stateSeated l)) q
+
+    pub seat-pre : t < e .IF → Seated l (stateWith place k (stateSeated l))
+    seat-pre h = record { long = long; state = none ∙ with-place (in-pre i e t h) }
+
+    pub seat-post : Rising e → e .IF ≤ t → e .post ≤ t → Seated (set l 0 (getD l 0 0 + 1)) (stateWith place k (stateSeated l))
+    seat-post r fetched h =
+        record {
+          long = length-set l 0 _ ∙ long;
+          state =
+              rw (add-one (getD l 0 0))
+              (gone
+              ∙ with-place
+              (in-post i e t fetched (omega (arith, r .ID)) (omega (arith, r .EX)) (omega (arith, r .MEM)) (omega (arith, r .last)) h));
+        }
+
+    pub seat-slot
+        : e .IF ≤ t →
+        t < e .post →
+        {p : Code.Place} →
+        p ≡ place →
+        Seated (set (set (set l 0 (getD l 0 0 + 1)) (p .level) (k + 1)) (6 + p .level) (p .count)) (stateWith place k (stateSeated l))
+    seat-slot fetched h q =
+        record {
+          long = simp length-set long;
+          state =
+              rw (q, add-one (getD l 0 0), add-one k) (grown (placeAt i e t .stage) (placeAt i e t .count) (within i e t fetched h));
+        }

@@ -1,0 +1,79 @@
+// The state that Run's pass builds, as numbers in one array that is lent to it: a State that is
+// carried by value through the loop takes the padding of its six slots along. First stands how many
+// are fetched, then for each level from IF 1 to WB 6 one more than the index of the instruction there,
+// 0 where there is none, then their counts.
+ghost use mathlib.Core.Path.{_≡_};
+ghost use Prim.Native.Nat.{_+_, _<_, _≤_, _^_};
+ghost use lib.ListN.{getD, length};
+ghost use Rattle.machine.proofs.Window.{placeAt};
+ghost use Rattle.record.specs.Rules.{instructionOf};
+ghost use Rattle.schedule.specs.Code.{timesOf, numbered};
+ghost use Rattle.pipeline.specs.Placing.{Rising, stateWith, slotSeated, stateSeated, Seated};
+use machine::Slot;
+use machine::State;
+use record::Fields;
+use schedule::Times;
+use schedule::place_at;
+use schedule::places::EX;
+use schedule::places::ID;
+use schedule::places::IF;
+use schedule::places::MEM;
+use schedule::places::ST;
+use schedule::places::WB;
+
+pub(crate) const SEATS: usize = 13;
+
+// From a seat to its count.
+const COUNTS: usize = 6;
+
+// One more instruction, k: counted unless it is in pre, and seated where it has a slot. Its first and
+// last times say of nearly every one that it has none, before its place is looked for.
+pub(crate) fn seat(seats: &mut [u32; SEATS], f: Fields, e: Times, limit: u32, k: u32)
+    requires { ⌜ (length (now seats) ≡ 13) × Rising (timesOf e) × (getD (now seats) 0 0 + 1 < 2 ^ 32) × (k + 1 < 2 ^ 32) ⌝ }
+    ensures { λ _. ⌜ Seated (now (seats .exit)) (stateWith (numbered (placeAt (instructionOf f) (timesOf e) limit)) k (stateSeated (now (seats .entry)))) ⌝ }
+{
+    if limit < e.IF {
+        return;
+    }
+    seats[0] = seats[0] + 1;
+    if limit < e.post {
+        let p = place_at(f, e, limit);
+        let at = p.level as usize;
+        seats[at] = k + 1;
+        seats[COUNTS + at] = p.count;
+    }
+}
+
+fn slot_at(seats: &[u32; SEATS], level: u32) -> Slot
+    requires { ⌜ level ≤ 6 ⌝ }
+    ensures { λ r. ⌜ r ≡ slotSeated (now (seats .entry)) level ⌝ }
+{
+    let at = level as usize;
+    let seat = seats[at];
+    if seat == 0 {
+        return Slot {
+            filled: false,
+            index: 0,
+            count: 0,
+        };
+    }
+    Slot {
+        filled: true,
+        index: seat - 1,
+        count: seats[COUNTS + at],
+    }
+}
+
+pub(crate) fn seated(seats: &[u32; SEATS]) -> State
+    ensures { λ r. ⌜ r ≡ stateSeated (now (seats .entry)) ⌝ }
+{
+    State {
+        fetched: seats[0],
+        IF: slot_at(seats, IF),
+        ID: slot_at(seats, ID),
+        EX: slot_at(seats, EX),
+        MEM: slot_at(seats, MEM),
+        ST: slot_at(seats, ST),
+        WB: slot_at(seats, WB),
+    }
+}
