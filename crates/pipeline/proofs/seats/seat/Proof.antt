@@ -1,12 +1,13 @@
 -- `seat` meets its contract: by its first and last times an instruction is in pre, in post or in a slot, and so it is in the numbers.
 use native.Mathlib.Omega.{arith}
 use borrow.Author.Needs.{needs}
+use Rattle.schedule.specs.Code.{timesOf}
 use Rattle.pipeline.proofs.Seating.{within-seats, seat-pre, seat-slot, seat-post}
 use Rattle.pipeline.proofs.seats.seat.Statement.{statement}
 use Rattle.pipeline.proofs.seats.seat.Tie as tie
 
 returns : tie.Need-returns
-returns c = seat-pre _ _ (c .before .before .pre .0) _ _ _ (c .if1 .taken)
+returns c = seat-pre _ _ (c .before .before .pre .0) _ (timesOf (c .before .before .args .e)) _ (c .if1 .taken)
 
 element-copy-out-seats : tie.Need-element-copy-out-seats
 element-copy-out-seats c = search needs
