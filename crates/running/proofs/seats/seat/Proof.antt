@@ -1,9 +1,9 @@
 -- `seat` meets its contract: by its first and last times an instruction is in pre, in post or in a slot, and so it is in the numbers.
 use native.Mathlib.Omega.{arith}
 use borrow.Author.Needs.{needs}
-use Rattle.pipeline.proofs.Seating.{within-seats, seat-pre, seat-slot, seat-post}
-use Rattle.pipeline.proofs.seats.seat.Statement.{statement}
-use Rattle.pipeline.proofs.seats.seat.Tie as tie
+use Rattle.running.proofs.Seating.{within-seats, seat-pre, seat-slot, seat-post}
+use Rattle.running.proofs.seats.seat.Statement.{statement}
+use Rattle.running.proofs.seats.seat.Tie as tie
 
 returns : tie.Need-returns
 returns c = seat-pre _ _ (c .before .before .pre .0) _ _ _ (c .if1 .taken)
