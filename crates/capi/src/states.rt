@@ -2,10 +2,10 @@
 ghost use mathlib.Core.Path.{_≡_};
 ghost use Rattle.machine.specs.State.{start};
 ghost use Rattle.pipeline.specs.Step.{stepAnswer};
-ghost use Rattle.pipeline.specs.Run.{runAnswer};
+ghost use Rattle.running.specs.Run.{runAnswer};
 use machine::State;
-use pipeline::Ran;
 use pipeline::Stepped;
+use running::Ran;
 
 #[no_mangle]
 pub extern "C" fn sic_start() -> State
@@ -33,5 +33,5 @@ pub extern "C" fn sic_advance(s: &mut State, body: &[u8]) -> u32
 pub extern "C" fn sic_run(body: &[u8], limit: u32) -> Ran
     ensures { λ r. ⌜ r ≡ runAnswer (now (body .entry)) limit ⌝ }
 {
-    pipeline::run(body, limit)
+    running::run(body, limit)
 }

@@ -10,9 +10,9 @@ use crate::report::Tally;
 use inplace::advanced;
 use machine::Slot;
 use machine::State;
-use pipeline::run;
 use pipeline::step;
 use record::Fields;
+use running::run;
 
 fn runs(only: Fields, n: usize, limit: u32, cycles: u32, left: bool) -> bool {
     let body = record_of(only);

@@ -5,7 +5,3 @@ pub mod Entry
 pub mod Going
 pub mod Slots
 pub mod Answer
-pub mod RunState
-pub mod Seating
-pub mod RunPass
-pub mod RunAnswer

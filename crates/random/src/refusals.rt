@@ -1,7 +1,7 @@
 // What each call answers to a body that may be broken, against the model's refusals.
 use machine::State;
-use pipeline::run;
 use pipeline::step;
+use running::run;
 use timing::alike;
 use timing::best_worst;
 use timing::finish;

@@ -4,8 +4,8 @@ use machine::Slot;
 use machine::State;
 use model::Places;
 use model::Trace;
-use pipeline::run;
 use pipeline::step;
+use running::run;
 
 // How many rows were compared, and whether all agreed.
 pub struct Compared {

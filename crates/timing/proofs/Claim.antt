@@ -12,7 +12,7 @@ use Rattle.machine.proofs.Slower.{slower-length, ordered}
 use Rattle.machine.proofs.Longer.{added-at-most}
 use Rattle.machine.proofs.Settlings.{settlings-enclosed}
 use Rattle.record.specs.Body.{records, traceOf, settledBody, bodyRefusal, settledRefusal}
-use Rattle.pipeline.specs.Run.{ranFor, runAnswer}
+use Rattle.running.specs.Run.{ranFor, runAnswer}
 use Rattle.timing.specs.Answers.{finishAnswer, bestWorstAnswer}
 use Rattle.timing.specs.Claim.{Passes, Compared, Attained, Holds, rules, calls, Demand3}
 use Rattle.record.proofs.Encoding.{length-traceOf}

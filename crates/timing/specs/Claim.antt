@@ -9,7 +9,7 @@ use Rattle.machine.specs.State.{placeOf}
 use Rattle.machine.specs.Time.{finish, best, worst, Settling}
 use Rattle.machine.specs.Order.{Slower, SameFlags, added}
 use Rattle.record.specs.Body.{Bytes, records, traceOf, bodyRefusal, settledRefusal}
-use Rattle.pipeline.specs.Run.{runAnswer}
+use Rattle.running.specs.Run.{runAnswer}
 use Rattle.timing.specs.Answers.{finishAnswer, bestWorstAnswer}
 
 -- a body that the refusals let pass: 10 and 8, any accepted trace; 10, 8 and 11, one without unknown flags

@@ -9,7 +9,7 @@ use Rattle.cases.proofs.build.part.Reads as part-reads
 use Rattle.cases.proofs.report.Tally.and.Reads as and-reads
 use Rattle.cases.proofs.report.Tally.new.Reads as new-reads
 use Rattle.cases.proofs.runs.in_place.Reads as in-place-reads
-use Rattle.pipeline.proofs.run.Reads as run-reads
+use Rattle.running.proofs.run.Reads as run-reads
 
 abbrev Inv-loop : tie.InvT-loop
 Inv-loop body n tally₀ t₀ tally t = t ≤ 10

@@ -11,7 +11,7 @@ use Rattle.machine.specs.Rules.{Stage, pre, IF, ID, EX, MEM, ST, WB, post, Plac
 use Rattle.machine.specs.State.{start, fetchedBelow, occupantBelow, stateOf}
 use Rattle.machine.specs.declared.State.{State}
 use Rattle.schedule.specs.Code.{numbered}
-use Rattle.pipeline.specs.Placing.{fetchedWith, slotWith, stateWith, stateBelow}
+use Rattle.running.specs.Placing.{fetchedWith, slotWith, stateWith, stateBelow}
 
 -- one more at its stage: in each of the eight cases both sides compute
 grown : (k count : ℕ) (s : State) (stage : Stage) →

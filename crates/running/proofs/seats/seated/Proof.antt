@@ -1,9 +1,9 @@
 -- `seated` meets its contract: field by field what its callees promise.
 use lib.ListN.{getD}
 use borrow.Author.Needs.{needs}
-use Rattle.pipeline.specs.Placing.{stateSeated}
-use Rattle.pipeline.proofs.seats.seated.Statement.{statement}
-use Rattle.pipeline.proofs.seats.seated.Tie as tie
+use Rattle.running.specs.Placing.{stateSeated}
+use Rattle.running.proofs.seats.seated.Statement.{statement}
+use Rattle.running.proofs.seats.seated.Tie as tie
 
 element-copy-out-t4 : tie.Need-element-copy-out-t4
 element-copy-out-t4 c = search needs

@@ -19,10 +19,10 @@ use Rattle.record.specs.Body.{records, traceOf, settledRefusal}
 use Rattle.record.proofs.Encoding.{length-traceOf}
 use Rattle.schedule.specs.declared.levels.Window.{Window}
 use Rattle.schedule.proofs.Pass.{pass-ends}
-use Rattle.pipeline.specs.Run.{ranFor, runAnswer}
-use Rattle.pipeline.specs.Placing.{stateBelow, stateSeated, Passed}
-use Rattle.pipeline.specs.declared.running.Ran.{Ran}
-use Rattle.pipeline.proofs.RunState.{state-ends}
+use Rattle.running.specs.Run.{ranFor, runAnswer}
+use Rattle.running.specs.Placing.{stateBelow, stateSeated, Passed}
+use Rattle.running.specs.declared.running.Ran.{Ran}
+use Rattle.running.proofs.RunState.{state-ends}
 
 left-by : (end limit : ℕ) → Tri end limit → leb end limit ≡ leb end (min limit end)
 left-by end limit (less h) = le-leb end limit (omega arith) ∙ sym (le-leb end (min limit end) (omega arith))

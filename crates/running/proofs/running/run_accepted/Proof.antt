@@ -3,11 +3,11 @@ use Prim.Native.Nat.{_-_, _≤_}
 use native.Mathlib.Omega.{arith}
 use borrow.Author.Needs.{needs}
 use Rattle.record.proofs.Accepted.{few-records}
-use Rattle.pipeline.specs.Placing.{Passed}
-use Rattle.pipeline.proofs.RunAnswer.{ran}
-use Rattle.pipeline.proofs.RunPass.{begins}
-use Rattle.pipeline.proofs.running.run_accepted.Statement.{statement}
-use Rattle.pipeline.proofs.running.run_accepted.Tie as tie
+use Rattle.running.specs.Placing.{Passed}
+use Rattle.running.proofs.RunAnswer.{ran}
+use Rattle.running.proofs.RunPass.{begins}
+use Rattle.running.proofs.running.run_accepted.Statement.{statement}
+use Rattle.running.proofs.running.run_accepted.Tie as tie
 
 abbrev Inv-loop : tie.InvT-loop
 Inv-loop body limit records w₀ seats₀ k₀ w seats k = (k ≤ records) × Passed body limit k w seats

@@ -2,9 +2,9 @@
 use native.Mathlib.Omega.{arith}
 use borrow.Author.Needs.{needs}
 use Rattle.schedule.specs.Code.{timesOf}
-use Rattle.pipeline.proofs.Seating.{within-seats, seat-pre, seat-slot, seat-post}
-use Rattle.pipeline.proofs.seats.seat.Statement.{statement}
-use Rattle.pipeline.proofs.seats.seat.Tie as tie
+use Rattle.running.proofs.Seating.{within-seats, seat-pre, seat-slot, seat-post}
+use Rattle.running.proofs.seats.seat.Statement.{statement}
+use Rattle.running.proofs.seats.seat.Tie as tie
 
 returns : tie.Need-returns
 returns c = seat-pre _ _ (c .before .before .pre .0) _ (timesOf (c .before .before .args .e)) _ (c .if1 .taken)

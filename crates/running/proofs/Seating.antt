@@ -16,7 +16,7 @@ use Rattle.machine.proofs.Window.{Times, Window, lastCount, placeAt, timesFrom,
 use Rattle.schedule.specs.Code.{numbered}
 use Rattle.schedule.specs.declared.places.Place as Code
 use Rattle.schedule.proofs.Cases.{in-pre, in-post}
-use Rattle.pipeline.specs.Placing.{fetchedWith, slotWith, stateWith, slotOf, slotSeated, stateSeated, Seated, Rising}
+use Rattle.running.specs.Placing.{fetchedWith, slotWith, stateWith, slotOf, slotSeated, stateSeated, Seated, Rising}
 
 -- a list by its elements
 abbrev spelled : ℕ → List ℕ → List ℕ

@@ -1,8 +1,8 @@
 -- `pass_over` meets its contract: the window and what the record says allow the calls, and what they give carries the pass on.
 use borrow.Author.Needs.{needs}
-use Rattle.pipeline.proofs.RunPass.{may-time, may-seat, may-slide, passes}
-use Rattle.pipeline.proofs.running.pass_over.Statement.{statement}
-use Rattle.pipeline.proofs.running.pass_over.Tie as tie
+use Rattle.running.proofs.RunPass.{may-time, may-seat, may-slide, passes}
+use Rattle.running.proofs.running.pass_over.Statement.{statement}
+use Rattle.running.proofs.running.pass_over.Tie as tie
 
 fields-at-requires : tie.Need-fields-at-requires
 fields-at-requires c κs = search needs

@@ -8,7 +8,7 @@ ghost use lib.ListN.{getD, length};
 ghost use Rattle.machine.proofs.Window.{placeAt};
 ghost use Rattle.record.specs.Rules.{instructionOf};
 ghost use Rattle.schedule.specs.Code.{timesOf, numbered};
-ghost use Rattle.pipeline.specs.Placing.{Rising, stateWith, slotSeated, stateSeated, Seated};
+ghost use Rattle.running.specs.Placing.{Rising, stateWith, slotSeated, stateSeated, Seated};
 use machine::Slot;
 use machine::State;
 use record::Fields;

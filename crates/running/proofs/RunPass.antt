@@ -20,9 +20,9 @@ use Rattle.schedule.specs.Code.{windowOf, numbered, maxTime, Room}
 use Rattle.schedule.specs.declared.levels.Window.{Window}
 use Rattle.schedule.proofs.Accepted.{small, read-instruction}
 use Rattle.schedule.proofs.Pass.{pass-starts, pass-fits, pass-room, pass-slides, pass-place}
-use Rattle.pipeline.specs.Placing.{stateWith, stateBelow, stateSeated, slotSeated, Seated, Rising, Passed}
-use Rattle.pipeline.proofs.RunState.{state-starts, state-grows, fetched-below}
-use Rattle.pipeline.proofs.Seating.{rises}
+use Rattle.running.specs.Placing.{stateWith, stateBelow, stateSeated, slotSeated, Seated, Rising, Passed}
+use Rattle.running.proofs.RunState.{state-starts, state-grows, fetched-below}
+use Rattle.running.proofs.Seating.{rises}
 
 pub begins : (body : List ℕ) (limit : ℕ) {w : Window} → windowOf w ≡ noWindow → Passed body limit 0 w (replicate 13 0)
 unfolding stateSeated slotSeated

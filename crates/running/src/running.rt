@@ -3,8 +3,8 @@
 ghost use mathlib.Core.Path.{_≡_};
 ghost use Prim.Native.Nat.{_+_, _<_, min};
 ghost use Rattle.record.specs.Body.{records, traceOf, bodyRefusal};
-ghost use Rattle.pipeline.specs.Run.{ranFor, runAnswer};
-ghost use Rattle.pipeline.specs.Placing.{Passed};
+ghost use Rattle.running.specs.Run.{ranFor, runAnswer};
+ghost use Rattle.running.specs.Placing.{Passed};
 use crate::seats::SEATS;
 use crate::seats::seat;
 use crate::seats::seated;

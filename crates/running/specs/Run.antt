@@ -8,7 +8,7 @@ use Rattle.machine.specs.Rules.{after, allLeft}
 use Rattle.machine.specs.Time.{finish}
 use Rattle.machine.specs.State.{start, stateOf}
 use Rattle.record.specs.Body.{traceOf, settledRefusal}
-use Rattle.pipeline.specs.declared.running.Ran.{Ran}
+use Rattle.running.specs.declared.running.Ran.{Ran}
 
 -- "goes from the start for at most a 32-bit limit of cycles, and gives the state, the number of cycles run (the smaller of limit and finishing
 -- time) and whether all have left": the state is the one after as many cycles of the rules as the count says

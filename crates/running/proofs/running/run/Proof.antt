@@ -3,9 +3,9 @@ use mathlib.Core.Path.{sym, _∙_}
 use native.Mathlib.Omega.{arith}
 use borrow.Author.Needs.{needs}
 use Rattle.record.proofs.Accepted.{settled-accepted}
-use Rattle.pipeline.proofs.RunAnswer.{run-refused, run-accepted}
-use Rattle.pipeline.proofs.running.run.Statement.{statement}
-use Rattle.pipeline.proofs.running.run.Tie as tie
+use Rattle.running.proofs.RunAnswer.{run-refused, run-accepted}
+use Rattle.running.proofs.running.run.Statement.{statement}
+use Rattle.running.proofs.running.run.Tie as tie
 
 settled-refusal-requires : tie.Need-settled-refusal-requires
 settled-refusal-requires c κs = search needs

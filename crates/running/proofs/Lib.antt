@@ -1,0 +1,4 @@
+pub mod RunState
+pub mod Seating
+pub mod RunPass
+pub mod RunAnswer
