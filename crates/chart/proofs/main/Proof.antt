@@ -9,43 +9,33 @@ use Rattle.drawing.proofs.draw.Reads as draw-reads
 use Rattle.io.proofs.read_full.Reads as read-full-reads
 use Rattle.io.proofs.write_all.Reads as write-all-reads
 
--- src/main.rt:8:35
 slice-aggregate-read-full : tie.Need-slice-aggregate-read-full
 slice-aggregate-read-full c = search needs
 
--- src/main.rt:8:9
 read-full-requires : tie.Need-read-full-requires
 read-full-requires c κs = search needs
 
--- src/main.rt:9:20
 array-share-prefix-file : tie.Need-array-share-prefix-file
 array-share-prefix-file c = search needs
 
--- src/main.rt:9:20
 slice-aggregate-draw : tie.Need-slice-aggregate-draw
 slice-aggregate-draw c = search needs
 
--- src/main.rt:9:37
 slice-aggregate-draw-2 : tie.Need-slice-aggregate-draw-2
 slice-aggregate-draw-2 c = search needs
 
--- src/main.rt:9:9
 draw-requires : tie.Need-draw-requires
 draw-requires c κs = search needs
 
--- src/main.rt:10:22
 array-share-prefix-text : tie.Need-array-share-prefix-text
 array-share-prefix-text c = chart-inside _ _ (c .before .draw .ensures .0) (c .before .draw .ensures .1) .0
 
--- src/main.rt:10:22
 slice-aggregate-write-all : tie.Need-slice-aggregate-write-all
 slice-aggregate-write-all c = chart-inside _ _ (c .before .before .draw .ensures .0) (c .before .before .draw .ensures .1) .1
 
--- src/main.rt:10:5
 write-all-requires : tie.Need-write-all-requires
 write-all-requires c κs = search needs
 
--- src/main.rt:5:1
 returns : tie.Need-returns
 returns c = search needs
 

@@ -9,59 +9,45 @@ use Rattle.charts.proofs.read_named.Reads as read-named-reads
 use Rattle.charts.proofs.same.Reads as same-reads
 use Rattle.drawing.proofs.draw.Reads as draw-reads
 
--- src/main.rt:43:32
 slice-aggregate-read-named : tie.Need-slice-aggregate-read-named
 slice-aggregate-read-named c = search needs
 
--- src/main.rt:43:9
 read-named-requires : tie.Need-read-named-requires
 read-named-requires c κs = search needs
 
--- src/main.rt:44:33
 slice-aggregate-read-named-2 : tie.Need-slice-aggregate-read-named-2
 slice-aggregate-read-named-2 c = search needs
 
--- src/main.rt:44:9
 read-named-requires-2 : tie.Need-read-named-requires-2
 read-named-requires-2 c κs = search needs
 
--- src/main.rt:45:20
 array-share-prefix-file : tie.Need-array-share-prefix-file
 array-share-prefix-file c = search needs
 
--- src/main.rt:45:20
 slice-aggregate-draw : tie.Need-slice-aggregate-draw
 slice-aggregate-draw c = search needs
 
--- src/main.rt:45:37
 slice-aggregate-draw-2 : tie.Need-slice-aggregate-draw-2
 slice-aggregate-draw-2 c = search needs
 
--- src/main.rt:45:9
 draw-requires : tie.Need-draw-requires
 draw-requires c κs = search needs
 
--- src/main.rt:46:10
 array-share-prefix-text : tie.Need-array-share-prefix-text
 array-share-prefix-text c = chart-inside _ _ (c .before .draw .ensures .0) (c .before .draw .ensures .1) .0
 
--- src/main.rt:46:10
 slice-aggregate-same : tie.Need-slice-aggregate-same
 slice-aggregate-same c = chart-inside _ _ (c .before .before .draw .ensures .0) (c .before .before .draw .ensures .1) .1
 
--- src/main.rt:46:24
 array-share-prefix-expected : tie.Need-array-share-prefix-expected
 array-share-prefix-expected c = search needs
 
--- src/main.rt:46:24
 slice-aggregate-same-2 : tie.Need-slice-aggregate-same-2
 slice-aggregate-same-2 c = search needs
 
--- src/main.rt:46:5
 same-requires : tie.Need-same-requires
 same-requires c κs = search needs
 
--- src/main.rt:39:1
 returns : tie.Need-returns
 returns c = search needs
 

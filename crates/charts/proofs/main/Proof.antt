@@ -14,43 +14,33 @@ Inv-loop count i₀ i = i ≤ count + 1
 abbrev μ-loop : tie.MeasureT-loop
 μ-loop count i₀ i = count + 2 - i
 
--- src/main.rt:59:9
 arg-count-requires : tie.Need-arg-count-requires Inv-loop μ-loop
 arg-count-requires c κs = tt
 
--- src/main.rt:61:5
 loop-holds : tie.Need-loop-holds Inv-loop μ-loop
 loop-holds c = omega arith
 
--- src/main.rt:62:17
 add-tell : tie.Need-add-tell Inv-loop μ-loop
 add-tell c = omega arith
 
--- src/main.rt:62:9
 tell-requires : tie.Need-tell-requires Inv-loop μ-loop
 tell-requires c κs = tt
 
--- src/main.rt:63:12
 sub-if1 : tie.Need-sub-if1 Inv-loop μ-loop
 sub-if1 c = omega arith
 
--- src/main.rt:64:13
 returns : tie.Need-returns Inv-loop μ-loop
 returns c = tt
 
--- src/main.rt:66:9
 add-i : tie.Need-add-i Inv-loop μ-loop
 add-i c = omega arith
 
--- src/main.rt:61:5
 loop-less : tie.Need-loop-less Inv-loop μ-loop
 loop-less c = omega arith
 
--- src/main.rt:61:5
 loop-again : tie.Need-loop-again Inv-loop μ-loop
 loop-again c = omega arith
 
--- src/main.rt:58:1
 returns-2 : tie.Need-returns-2 Inv-loop μ-loop
 returns-2 c = tt
 

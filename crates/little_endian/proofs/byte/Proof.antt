@@ -8,15 +8,12 @@ use Rattle.little_endian.proofs.byte.Reads as reads
 use Rattle.little_endian.proofs.byte.Lts as lts
 use Rattle.little_endian.proofs.byte_at.Reads as byte-at-reads
 
--- src/lib.rt:33:9
 byte-at-requires : tie.Need-byte-at-requires
 byte-at-requires c κs = search needs
 
--- src/lib.rt:33:9
 returns : tie.Need-returns
 returns c = search needs
 
--- src/lib.rt:29:1
 returns-2 : tie.Need-returns-2
 returns-2 c = (rw (List·getD-eq-default {A = ℕ} _ 0 (c .if1 .left)), omega arith)
 

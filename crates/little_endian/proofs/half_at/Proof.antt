@@ -6,27 +6,21 @@ use Rattle.little_endian.proofs.half_at.Reads as reads
 use Rattle.little_endian.proofs.half_at.Lts as lts
 use Rattle.little_endian.proofs.byte_at.Reads as byte-at-reads
 
--- src/lib.rt:25:5
 byte-at-requires : tie.Need-byte-at-requires
 byte-at-requires c κs = search needs
 
--- src/lib.rt:25:47
 add-byte-at : tie.Need-add-byte-at
 add-byte-at c = search needs
 
--- src/lib.rt:25:32
 byte-at-requires-2 : tie.Need-byte-at-requires-2
 byte-at-requires-2 c κs = search needs
 
--- src/lib.rt:25:26
 mul-result : tie.Need-mul-result
 mul-result c = search needs
 
--- src/lib.rt:25:5
 add-result : tie.Need-add-result
 add-result c = search needs
 
--- src/lib.rt:21:1
 returns : tie.Need-returns
 returns c = omega arith
 

@@ -15,59 +15,45 @@ use Rattle.report.proofs.tell.no_deadline.Reads as no-deadline-reads
 use Rattle.report.proofs.tell.too_many.Reads as too-many-reads
 use Rattle.report.proofs.tell.usage.Reads as usage-reads
 
--- src/main.rt:65:9
 arg-count-requires : tie.Need-arg-count-requires
 arg-count-requires c κs = search needs
 
--- src/main.rt:67:9
 usage-requires : tie.Need-usage-requires
 usage-requires c κs = search needs
 
--- src/main.rt:68:9
 returns : tie.Need-returns
 returns c = search needs
 
--- src/main.rt:70:17
 sub-given : tie.Need-sub-given
 sub-given c = search needs
 
--- src/main.rt:72:38
 slice-aggregate-read-deadlines : tie.Need-slice-aggregate-read-deadlines
 slice-aggregate-read-deadlines c = search needs
 
--- src/main.rt:72:9
 read-deadlines-requires : tie.Need-read-deadlines-requires
 read-deadlines-requires c κs = search needs
 
--- src/main.rt:74:9
 no-deadline-requires : tie.Need-no-deadline-requires
 no-deadline-requires c κs = search needs
 
--- src/main.rt:75:9
 returns-2 : tie.Need-returns-2
 returns-2 c = search needs
 
--- src/main.rt:78:9
 too-many-requires : tie.Need-too-many-requires
 too-many-requires c κs = search needs
 
--- src/main.rt:79:9
 returns-3 : tie.Need-returns-3
 returns-3 c = search needs
 
--- src/main.rt:81:18
 array-share-prefix-deadlines : tie.Need-array-share-prefix-deadlines
 array-share-prefix-deadlines c = search needs
 
--- src/main.rt:81:18
 slice-aggregate-print-report : tie.Need-slice-aggregate-print-report
 slice-aggregate-print-report c = sym (length-take-le (c .before .before .before .before .before .before .before .arg-count .result - 1) (c .before .before .before .before .read-deadlines .last .1 .0) (omega (arith, c .before .if3 .left, c .before .before .before .before .read-deadlines .kept .1 .0)))
 
--- src/main.rt:81:5
 print-report-requires : tie.Need-print-report-requires
 print-report-requires c κs = search needs
 
--- src/main.rt:64:1
 returns-4 : tie.Need-returns-4
 returns-4 c = search needs
 

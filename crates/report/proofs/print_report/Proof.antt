@@ -11,59 +11,45 @@ use Rattle.report.proofs.tell.misfit.Reads as misfit-reads
 use Rattle.report.proofs.tell.refusal.Reads as refusal-reads
 use Rattle.reporting.proofs.report.Reads as report-reads
 
--- src/main.rt:47:46
 slice-aggregate-read-full : tie.Need-slice-aggregate-read-full
 slice-aggregate-read-full c = search needs
 
--- src/main.rt:47:9
 read-full-requires : tie.Need-read-full-requires
 read-full-requires c κs = search needs
 
--- src/main.rt:48:27
 array-share-prefix-file : tie.Need-array-share-prefix-file
 array-share-prefix-file c = search needs
 
--- src/main.rt:48:27
 slice-aggregate-report : tie.Need-slice-aggregate-report
 slice-aggregate-report c = search needs
 
--- src/main.rt:48:55
 slice-aggregate-report-2 : tie.Need-slice-aggregate-report-2
 slice-aggregate-report-2 c = search needs
 
--- src/main.rt:48:9
 report-requires : tie.Need-report-requires
 report-requires c κs = search needs
 
--- src/main.rt:51:9
 refusal-requires : tie.Need-refusal-requires
 refusal-requires c κs = search needs
 
--- src/main.rt:53:9
 misfit-requires : tie.Need-misfit-requires
 misfit-requires c κs = search needs
 
--- src/main.rt:55:38
 array-share-prefix-text : tie.Need-array-share-prefix-text
 array-share-prefix-text c = report-inside _ _ _ (c .before .before .before .before .report .ensures) .0
 
--- src/main.rt:55:38
 slice-aggregate-write-all : tie.Need-slice-aggregate-write-all
 slice-aggregate-write-all c = report-inside _ _ _ (c .before .before .before .before .before .report .ensures) .1
 
--- src/main.rt:55:9
 write-all-requires : tie.Need-write-all-requires
 write-all-requires c κs = search needs
 
--- src/main.rt:44:1
 returns : tie.Need-returns
 returns c = search needs
 
--- src/main.rt:44:1
 returns-2 : tie.Need-returns-2
 returns-2 c = search needs
 
--- src/main.rt:44:1
 returns-3 : tie.Need-returns-3
 returns-3 c = search needs
 

@@ -16,51 +16,39 @@ Inv-loop last deadlines₀ i₀ deadlines i = (i ≤ last) × (length deadlines 
 abbrev μ-loop : tie.MeasureT-loop
 μ-loop last deadlines₀ i₀ deadlines i = last - i
 
--- src/main.rt:37:5
 loop-holds : tie.Need-loop-holds Inv-loop μ-loop
 loop-holds c = (omega arith, refl)
 
--- src/main.rt:38:36
 add-deadline-in : tie.Need-add-deadline-in Inv-loop μ-loop
 add-deadline-in c = omega (arith, c .loop-test .taken)
 
--- src/main.rt:38:13
 deadline-in-requires : tie.Need-deadline-in-requires Inv-loop μ-loop
 deadline-in-requires c κs = tt
 
--- src/main.rt:40:20
 add-result : tie.Need-add-result Inv-loop μ-loop
 add-result c = omega (arith, c .before .before .before .loop-test .taken)
 
--- src/main.rt:40:13
 same-length : tie.Need-same-length Inv-loop μ-loop
 same-length c = c .before .before .before .before .loop .inv .1
 
--- src/main.rt:40:13
 returns : tie.Need-returns Inv-loop μ-loop
 returns c = tt
 
--- src/main.rt:42:9
 keep-requires : tie.Need-keep-requires Inv-loop μ-loop
 keep-requires c κs = tt
 
--- src/main.rt:43:9
 add-i : tie.Need-add-i Inv-loop μ-loop
 add-i c = omega (arith, c .before .before .before .before .before .before .before .loop-test .taken)
 
--- src/main.rt:37:5
 loop-less : tie.Need-loop-less Inv-loop μ-loop
 loop-less c = omega (arith, c .before .before .before .before .before .before .before .loop-test .taken)
 
--- src/main.rt:37:5
 loop-again : tie.Need-loop-again Inv-loop μ-loop
 loop-again c = (omega (arith, c .before .before .before .before .before .before .before .loop-test .taken), c .before .before .keep .kept .0 ∙ c .before .before .before .before .before .before .before .before .loop .inv .1)
 
--- src/main.rt:35:1
 same-length-2 : tie.Need-same-length-2 Inv-loop μ-loop
 same-length-2 c = c .before .loop .inv .1
 
--- src/main.rt:35:1
 returns-2 : tie.Need-returns-2 Inv-loop μ-loop
 returns-2 c = tt
 

@@ -13,15 +13,12 @@ use Rattle.capi.proofs.files.sic_open.Lts as lts
 use Rattle.job.proofs.cut.Reads as cut-reads
 use Rattle.job.proofs.locate.Reads as locate-reads
 
--- src/files.rt:23:9
 locate-requires : tie.Need-locate-requires
 locate-requires c κs = search needs
 
--- src/files.rt:24:9
 cut-requires : tie.Need-cut-requires
 cut-requires c κs = search needs
 
--- src/files.rt:19:1
 returns : tie.Need-returns
 returns c = let file = c .before .before .before .args .file .now in let at = located file (c .before .before .before .args .trace) _ (c .before .locate .ensures) in let e = c .cut .ensures in (at .0, ap (λ (l : List ℕ). take (length l) (drop (c .before .locate .result .start) file)) e ∙ part-taken file _ _ ∙ at .1)
 

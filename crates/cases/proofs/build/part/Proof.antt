@@ -6,15 +6,12 @@ use Rattle.cases.proofs.build.part.Tie as tie
 use Rattle.cases.proofs.build.part.Reads as reads
 use Rattle.cases.proofs.build.part.Lts as lts
 
--- src/build.rt:103:9
 slice-aggregate-result : tie.Need-slice-aggregate-result
 slice-aggregate-result c = sym (length-take-le _ _ (c .before .if1 .taken))
 
--- src/build.rt:103:9
 returns : tie.Need-returns
 returns c = search needs
 
--- src/build.rt:101:1
 returns-2 : tie.Need-returns-2
 returns-2 c = search needs
 

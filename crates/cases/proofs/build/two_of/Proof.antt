@@ -15,51 +15,39 @@ Inv-loop a b body₀ i₀ body i = (i ≤ 10)
 abbrev μ-loop : tie.MeasureT-loop
 μ-loop a b body₀ i₀ body i = 10 - i
 
--- src/build.rt:76:13
 record-of-requires : tie.Need-record-of-requires Inv-loop μ-loop
 record-of-requires c κs = search needs
 
--- src/build.rt:77:13
 record-of-requires-2 : tie.Need-record-of-requires-2 Inv-loop μ-loop
 record-of-requires-2 c κs = search needs
 
--- src/build.rt:80:5
 loop-holds : tie.Need-loop-holds Inv-loop μ-loop
 loop-holds c = omega arith
 
--- src/build.rt:81:19
 array-read-body : tie.Need-array-read-body Inv-loop μ-loop
 array-read-body c = search needs
 
--- src/build.rt:81:9
 array-write-body : tie.Need-array-write-body Inv-loop μ-loop
 array-write-body c = search needs
 
--- src/build.rt:82:24
 array-read-body-2 : tie.Need-array-read-body-2 Inv-loop μ-loop
 array-read-body-2 c = search needs
 
--- src/build.rt:82:14
 add-body : tie.Need-add-body Inv-loop μ-loop
 add-body c = omega arith
 
--- src/build.rt:82:9
 array-write-body-2 : tie.Need-array-write-body-2 Inv-loop μ-loop
 array-write-body-2 c = search needs
 
--- src/build.rt:83:9
 add-i : tie.Need-add-i Inv-loop μ-loop
 add-i c = omega arith
 
--- src/build.rt:80:5
 loop-less : tie.Need-loop-less Inv-loop μ-loop
 loop-less c = omega arith
 
--- src/build.rt:80:5
 loop-again : tie.Need-loop-again Inv-loop μ-loop
 loop-again c = omega arith
 
--- src/build.rt:75:1
 returns : tie.Need-returns Inv-loop μ-loop
 returns c = search needs
 

@@ -17,51 +17,39 @@ Inv-loop body n tally₀ t₀ tally t = t ≤ 10
 abbrev μ-loop : tie.MeasureT-loop
 μ-loop body n tally₀ t₀ tally t = 10 - t
 
--- src/runs.rt:106:9
 new-requires : tie.Need-new-requires Inv-loop μ-loop
 new-requires c κs = tt
 
--- src/runs.rt:108:5
 loop-holds : tie.Need-loop-holds Inv-loop μ-loop
 loop-holds c = omega arith
 
--- src/runs.rt:109:13
 run-requires : tie.Need-run-requires Inv-loop μ-loop
 run-requires c κs = tt
 
--- src/runs.rt:110:27
 in-place-requires : tie.Need-in-place-requires Inv-loop μ-loop
 in-place-requires c κs = tt
 
--- src/runs.rt:110:9
 and-requires : tie.Need-and-requires Inv-loop μ-loop
 and-requires c κs = tt
 
--- src/runs.rt:111:36
 part-requires : tie.Need-part-requires Inv-loop μ-loop
 part-requires c κs = tt
 
--- src/runs.rt:111:27
 in-place-requires-2 : tie.Need-in-place-requires-2 Inv-loop μ-loop
 in-place-requires-2 c κs = tt
 
--- src/runs.rt:111:9
 and-requires-2 : tie.Need-and-requires-2 Inv-loop μ-loop
 and-requires-2 c κs = tt
 
--- src/runs.rt:112:9
 add-t : tie.Need-add-t Inv-loop μ-loop
 add-t c = omega arith
 
--- src/runs.rt:108:5
 loop-less : tie.Need-loop-less Inv-loop μ-loop
 loop-less c = omega arith
 
--- src/runs.rt:108:5
 loop-again : tie.Need-loop-again Inv-loop μ-loop
 loop-again c = omega arith
 
--- src/runs.rt:105:1
 returns : tie.Need-returns Inv-loop μ-loop
 returns c = tt
 

@@ -16,51 +16,39 @@ Inv-loop body tally₀ n₀ tally n = (1 ≤ n) × (n ≤ 4097)
 abbrev μ-loop : tie.MeasureT-loop
 μ-loop body tally₀ n₀ tally n = 4097 - n
 
--- src/times.rt:28:9
 new-requires : tie.Need-new-requires Inv-loop μ-loop
 new-requires c κs = search needs
 
--- src/times.rt:30:5
 loop-holds : tie.Need-loop-holds Inv-loop μ-loop
 loop-holds c = omega arith
 
--- src/times.rt:31:47
 cast-part : tie.Need-cast-part Inv-loop μ-loop
 cast-part c = search needs
 
--- src/times.rt:31:47
 mul-part : tie.Need-mul-part Inv-loop μ-loop
 mul-part c = search needs
 
--- src/times.rt:31:36
 part-requires : tie.Need-part-requires Inv-loop μ-loop
 part-requires c κs = search needs
 
--- src/times.rt:31:13
 finish-requires : tie.Need-finish-requires Inv-loop μ-loop
 finish-requires c κs = search needs
 
--- src/times.rt:32:63
 add-and : tie.Need-add-and Inv-loop μ-loop
 add-and c = search needs
 
--- src/times.rt:32:9
 and-requires : tie.Need-and-requires Inv-loop μ-loop
 and-requires c κs = search needs
 
--- src/times.rt:33:9
 add-n : tie.Need-add-n Inv-loop μ-loop
 add-n c = search needs
 
--- src/times.rt:30:5
 loop-less : tie.Need-loop-less Inv-loop μ-loop
 loop-less c = omega arith
 
--- src/times.rt:30:5
 loop-again : tie.Need-loop-again Inv-loop μ-loop
 loop-again c = omega arith
 
--- src/times.rt:27:1
 returns : tie.Need-returns Inv-loop μ-loop
 returns c = search needs
 

@@ -16,39 +16,30 @@ use Rattle.drawing.proofs.chart.draw_refusal.Reads as draw-refusal-read
 use Rattle.job.proofs.cut.Reads as cut-reads
 use Rattle.job.proofs.locate.Reads as locate-reads
 
--- src/chart.rt:70:9
 returns : tie.Need-returns
 returns c = short-output _ _ (c .if1 .taken)
 
--- src/chart.rt:72:9
 locate-requires : tie.Need-locate-requires
 locate-requires c κs = search needs
 
--- src/chart.rt:74:9
 draw-refusal-requires : tie.Need-draw-refusal-requires
 draw-refusal-requires c κs = search needs
 
--- src/chart.rt:74:9
 same-length : tie.Need-same-length
 same-length c = search needs
 
--- src/chart.rt:74:9
 returns-2 : tie.Need-returns-2
 returns-2 c = let file = c .before .before .before .before .before .before .before .before .before .before .args .file .now in let e = located file 0 _ (c .before .before .before .before .before .before .locate .ensures) .0 in drawn _ _ (c .before .before .before .before .before .before .before .if1 .left) (ap refusalText e ∙ sym (chart-refused file (λ z. c .before .before .before .before .if2 .taken (e ∙ z)))) (c .before .before .draw-refusal .ensures)
 
--- src/chart.rt:76:15
 cut-requires : tie.Need-cut-requires
 cut-requires c κs = search needs
 
--- src/chart.rt:76:5
 draw-body-requires : tie.Need-draw-body-requires
 draw-body-requires c κs = let file = c .before .before .before .before .before .before .before .before .args .file .now in let at = located file 0 _ (c .before .before .before .before .locate .ensures) in (ap bodyRefusal (c .before .cut .ensures ∙ at .1) ∙ opened-accepted file 0 (sym (at .0) ∙ c .before .before .if2 .left), c .before .before .before .before .before .if1 .left)
 
--- src/chart.rt:66:1
 same-length-2 : tie.Need-same-length-2
 same-length-2 c = search needs
 
--- src/chart.rt:66:1
 returns-3 : tie.Need-returns-3
 returns-3 c = let file = c .before .before .before .before .before .before .before .before .before .before .before .args .file .now in let at = located file 0 _ (c .before .before .before .before .before .before .before .locate .ensures) in drawn _ _ (c .before .before .before .before .before .before .before .before .if1 .left) (ap (λ (body : List ℕ). chartOf (traceOf body)) (c .before .before .before .before .cut .ensures ∙ at .1) ∙ sym (chart-given file (sym (at .0) ∙ c .before .before .before .before .before .if2 .left))) (c .before .before .draw-body .ensures)
 

@@ -27,35 +27,27 @@ times-given : (body : List ℕ) → bodyRefusal body ≡ 0 → bestWorstAnswer b
 unfolding bestWorstAnswer
 times-given body e = rw e
 
--- src/chart.rt:58:9
 best-worst-requires : tie.Need-best-worst-requires
 best-worst-requires c κs = search needs
 
--- src/chart.rt:59:34
 slice-aggregate-put-text : tie.Need-slice-aggregate-put-text
 slice-aggregate-put-text c = search needs
 
--- src/chart.rt:59:9
 put-text-requires : tie.Need-put-text-requires
 put-text-requires c κs = search needs
 
--- src/chart.rt:60:42
 smaller-requires : tie.Need-smaller-requires
 smaller-requires c κs = search needs
 
--- src/chart.rt:60:9
 put-rows-requires : tie.Need-put-rows-requires
 put-rows-requires c κs = search needs
 
--- src/chart.rt:61:5
 put-times-requires : tie.Need-put-times-requires
 put-times-requires c κs = let short = rows-short (settle miss (traceOf (c .before .before .before .before .before .before .before .before .before .before .before .before .before .before .args .body .now))) (suc (c .before .before .before .before .smaller .result)) in omega (arith, c .before .before .before .before .before .before .before .before .before .before .before .before .before .before .pre .1, c .before .before .before .put-rows .ensures .0, c .before .before .before .put-rows .kept .1 .0, c .before .before .before .before .before .before .before .before .put-text .ensures .0, c .before .before .before .before .before .before .before .before .put-text .kept .0, c .before .before .before .before .smaller .ensures)
 
--- src/chart.rt:54:1
 same-length : tie.Need-same-length
 same-length c = search needs
 
--- src/chart.rt:54:1
 returns : tie.Need-returns
 unfolding chartOf
 returns c = let trace = traceOf (c .before .before .before .before .before .before .before .before .before .before .before .before .before .before .before .before .before .args .body .now) in let times = c .before .before .before .before .before .before .before .before .before .before .before .before .before .before .best-worst .ensures ∙ times-given _ (c .before .before .before .before .before .before .before .before .before .before .before .before .before .before .before .before .before .pre .0) in let latest = ap (λ (t : BestWorst). t .worst) times in let earliest = ap (λ (t : BestWorst). t .best) times in wrote-then _ _ _ _ (wrote-then _ _ _ _ (c .before .before .before .before .before .before .before .before .before .before .before .put-text .ensures) (as-text _ _ (ap (λ (n : ℕ). rowsText (settle miss trace) (suc n)) (c .before .before .before .before .before .before .before .smaller .ensures ∙ ap (λ (t : ℕ). min t 1000) latest)) (c .before .before .before .before .before .before .put-rows .ensures))) (as-text _ _ (ap₂ timesText latest earliest) (c .before .before .put-times .ensures))

@@ -11,27 +11,21 @@ use Rattle.text.proofs.put_byte.Reads as put-byte-reads
 use Rattle.text.proofs.put_decimal.Reads as put-decimal-reads
 use Rattle.text.proofs.put_text.Reads as put-text-reads
 
--- src/chart.rt:49:31
 slice-aggregate-put-text : tie.Need-slice-aggregate-put-text
 slice-aggregate-put-text c = search needs
 
--- src/chart.rt:49:9
 put-text-requires : tie.Need-put-text-requires
 put-text-requires c κs = search needs
 
--- src/chart.rt:50:9
 put-decimal-requires : tie.Need-put-decimal-requires
 put-decimal-requires c κs = omega (arith, c .before .before .before .before .before .before .before .pre, c .before .before .before .put-text .ensures .0, c .before .before .before .put-text .kept .0, decimal-short (c .before .before .before .before .before .before .before .args .number))
 
--- src/chart.rt:51:5
 put-byte-requires : tie.Need-put-byte-requires
 put-byte-requires c κs = omega (arith, c .before .before .before .before .before .before .before .before .before .before .before .pre, c .before .before .before .before .before .before .before .put-text .ensures .0, c .before .before .before .before .before .before .before .put-text .kept .0, c .before .before .before .put-decimal .ensures .0, c .before .before .before .put-decimal .kept .0, decimal-short (c .before .before .before .before .before .before .before .before .before .before .before .args .number))
 
--- src/chart.rt:45:1
 same-length : tie.Need-same-length
 same-length c = search needs
 
--- src/chart.rt:45:1
 returns : tie.Need-returns
 unfolding refusalText
 returns c = wrote-then _ _ _ _ (wrote-then _ _ _ _ (c .before .before .before .before .before .before .before .before .before .before .put-text .ensures) (c .before .before .before .before .before .before .put-decimal .ensures)) (c .before .before .put-byte .ensures)

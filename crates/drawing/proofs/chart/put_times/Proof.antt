@@ -12,39 +12,30 @@ use Rattle.text.proofs.put_byte.Reads as put-byte-reads
 use Rattle.text.proofs.put_decimal.Reads as put-decimal-reads
 use Rattle.text.proofs.put_text.Reads as put-text-reads
 
--- src/chart.rt:38:36
 slice-aggregate-put-text : tie.Need-slice-aggregate-put-text
 slice-aggregate-put-text c = search needs
 
--- src/chart.rt:38:9
 put-text-requires : tie.Need-put-text-requires
 put-text-requires c κs = search needs
 
--- src/chart.rt:39:9
 put-decimal-requires : tie.Need-put-decimal-requires
 put-decimal-requires c κs = omega (arith, c .before .before .before .before .before .before .before .pre, c .before .before .before .put-text .ensures .0, c .before .before .before .put-text .kept .0, decimal-short (c .before .before .before .before .before .before .before .args .worst))
 
--- src/chart.rt:40:43
 slice-aggregate-put-text-2 : tie.Need-slice-aggregate-put-text-2
 slice-aggregate-put-text-2 c = search needs
 
--- src/chart.rt:40:9
 put-text-requires-2 : tie.Need-put-text-requires-2
 put-text-requires-2 c κs = omega (arith, c .before .before .before .before .before .before .before .before .before .before .before .before .pre, c .before .before .before .before .before .before .before .before .put-text .ensures .0, c .before .before .before .before .before .before .before .before .put-text .kept .0, c .before .before .before .before .put-decimal .ensures .0, c .before .before .before .before .put-decimal .kept .0, decimal-short (c .before .before .before .before .before .before .before .before .before .before .before .before .args .worst))
 
--- src/chart.rt:41:9
 put-decimal-requires-2 : tie.Need-put-decimal-requires-2
 put-decimal-requires-2 c κs = omega (arith, c .before .before .before .before .before .before .before .before .before .before .before .before .before .before .before .before .pre, c .before .before .before .before .before .before .before .before .before .before .before .before .put-text .ensures .0, c .before .before .before .before .before .before .before .before .before .before .before .before .put-text .kept .0, c .before .before .before .before .before .before .before .before .put-decimal .ensures .0, c .before .before .before .before .before .before .before .before .put-decimal .kept .0, c .before .before .before .put-text2 .ensures .0, c .before .before .before .put-text2 .kept .0, decimal-short (c .before .before .before .before .before .before .before .before .before .before .before .before .before .before .before .before .args .worst), decimal-short (c .before .before .before .before .before .before .before .before .before .before .before .before .before .before .before .before .args .best))
 
--- src/chart.rt:42:5
 put-byte-requires : tie.Need-put-byte-requires
 put-byte-requires c κs = omega (arith, c .before .before .before .before .before .before .before .before .before .before .before .before .before .before .before .before .before .before .before .before .pre, c .before .before .before .before .before .before .before .before .before .before .before .before .before .before .before .before .put-text .ensures .0, c .before .before .before .before .before .before .before .before .before .before .before .before .before .before .before .before .put-text .kept .0, c .before .before .before .before .before .before .before .before .before .before .before .before .put-decimal .ensures .0, c .before .before .before .before .before .before .before .before .before .before .before .before .put-decimal .kept .0, c .before .before .before .before .before .before .before .put-text2 .ensures .0, c .before .before .before .before .before .before .before .put-text2 .kept .0, c .before .before .before .put-decimal2 .ensures .0, c .before .before .before .put-decimal2 .kept .0, decimal-short (c .before .before .before .before .before .before .before .before .before .before .before .before .before .before .before .before .before .before .before .before .args .worst), decimal-short (c .before .before .before .before .before .before .before .before .before .before .before .before .before .before .before .before .before .before .before .before .args .best))
 
--- src/chart.rt:34:1
 same-length : tie.Need-same-length
 same-length c = c .before .before .put-byte .kept .0 ∙ c .before .before .before .before .before .before .put-decimal2 .kept .0 ∙ c .before .before .before .before .before .before .before .before .before .before .put-text2 .kept .0 ∙ c .before .before .before .before .before .before .before .before .before .before .before .before .before .before .before .put-decimal .kept .0 ∙ c .before .before .before .before .before .before .before .before .before .before .before .before .before .before .before .before .before .before .before .put-text .kept .0
 
--- src/chart.rt:34:1
 returns : tie.Need-returns
 unfolding timesText
 returns c = wrote-then _ _ _ _ (wrote-then _ _ _ _ (wrote-then _ _ _ _ (wrote-then _ _ _ _ (c .before .before .before .before .before .before .before .before .before .before .before .before .before .before .before .before .before .before .before .put-text .ensures) (c .before .before .before .before .before .before .before .before .before .before .before .before .before .before .before .put-decimal .ensures)) (c .before .before .before .before .before .before .before .before .before .before .put-text2 .ensures)) (c .before .before .before .before .before .before .put-decimal2 .ensures)) (c .before .before .put-byte .ensures)

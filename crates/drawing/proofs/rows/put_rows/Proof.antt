@@ -29,41 +29,32 @@ Inv-loop body out₀ at last s₀ next₀ cycle₀ out s next cycle = let trace 
 abbrev μ-loop : tie.MeasureT-loop
 μ-loop body out₀ at last s₀ next₀ cycle₀ out s next cycle = suc last - cycle
 
--- src/rows.rt:48:9
 start-requires : tie.Need-start-requires Inv-loop μ-loop
 start-requires c κs = tt
 
--- src/rows.rt:51:5
 loop-holds : tie.Need-loop-holds Inv-loop μ-loop
 unfolding rowsText
 loop-holds c = (omega arith, c .start .ensures ∙ sym (run-starts _), refl, wrote-nothing _ _ (omega (arith, c .before .before .before .pre .2)))
 
--- src/rows.rt:52:9
 put-row-requires : tie.Need-put-row-requires Inv-loop μ-loop
 put-row-requires c κs = let short = rows-short (settle miss (traceOf (c .before .before .before .before .before .before .args .body .now))) (c .before .before .loop .cycle) in let i = c .before .before .loop .inv in omega (arith, i .2, i .3, c .before .loop-test .taken, c .before .before .before .before .before .before .pre .1, c .before .before .before .before .before .before .pre .2)
 
--- src/rows.rt:53:9
 next-worst-requires : tie.Need-next-worst-requires Inv-loop μ-loop
 next-worst-requires c κs = let trace = settle miss (traceOf (c .before .before .before .before .before .before .before .before .before .args .body .now)) in (c .before .before .before .before .before .before .before .before .before .pre .0, subst (λ (s : State). Orderly trace s) (sym (c .before .before .before .before .before .loop .inv .1)) (run-orderly trace (c .before .before .before .before .before .loop .cycle)))
 
--- src/rows.rt:54:9
 add-cycle : tie.Need-add-cycle Inv-loop μ-loop
 add-cycle c = omega (arith, c .before .before .before .before .before .loop-test .taken, c .before .before .before .before .before .before .before .before .before .before .pre .1)
 
--- src/rows.rt:51:5
 loop-less : tie.Need-loop-less Inv-loop μ-loop
 loop-less c = omega (arith, c .before .before .before .before .before .loop-test .taken)
 
--- src/rows.rt:51:5
 loop-again : tie.Need-loop-again Inv-loop μ-loop
 unfolding rowsText
 loop-again c = let trace = settle miss (traceOf (c .before .before .before .before .before .before .before .before .before .before .args .body .now)) in let n = c .before .before .before .before .before .before .loop .cycle in let i = c .before .before .before .before .before .before .loop .inv in (omega (arith, c .before .before .before .before .before .loop-test .taken), c .next-worst .ensures ∙ ap (λ (s : State). stateOf trace (cycle trace (placeOf s))) (i .1) ∙ step-run trace n ∙ ap (stateAfter trace) (sym (add-one n)), c .before .before .before .put-row .kept .0 ∙ i .2, as-text _ _ (ap (rowsText trace) (sym (add-one n))) (wrote-then _ _ _ _ (i .3) (as-text _ _ (ap (rowText n) (i .1)) (c .before .before .before .put-row .ensures))))
 
--- src/rows.rt:44:1
 same-length : tie.Need-same-length Inv-loop μ-loop
 same-length c = c .before .loop .inv .2
 
--- src/rows.rt:44:1
 returns : tie.Need-returns Inv-loop μ-loop
 returns c = let i = c .before .loop .inv in let e : c .before .loop .cycle ≡ suc (c .before .before .before .before .before .args .last) = omega (arith, c .loop-test .left, i .0) in as-text _ _ (ap (rowsText (settle miss (traceOf (c .before .before .before .before .before .args .body .now)))) e) (i .3)
 

@@ -20,67 +20,51 @@ Inv-loop file count end₀ t₀ end t = (t ≤ count) × (end ≡ startAt file t
 abbrev μ-loop : tie.MeasureT-loop
 μ-loop file count end₀ t₀ end t = count - t
 
--- src/table.rt:75:33
 mul-end : tie.Need-mul-end Inv-loop μ-loop
 mul-end c = omega arith
 
--- src/table.rt:75:19
 add-end : tie.Need-add-end Inv-loop μ-loop
 add-end c = omega arith
 
--- src/table.rt:77:5
 loop-holds : tie.Need-loop-holds Inv-loop μ-loop
 loop-holds c = (omega arith, ap (λ (n : ℕ). 2 + 6 * n) (c .before .pre .0) ∙ sym (start-zero _ _), first-zero _, omega arith)
 
--- src/table.rt:78:32
 mul-at : tie.Need-mul-at Inv-loop μ-loop
 mul-at c = omega arith
 
--- src/table.rt:78:18
 add-at : tie.Need-add-at Inv-loop μ-loop
 add-at c = omega arith
 
--- src/table.rt:79:39
 add-half : tie.Need-add-half Inv-loop μ-loop
 add-half c = omega arith
 
--- src/table.rt:79:13
 half-requires : tie.Need-half-requires Inv-loop μ-loop
 half-requires c κs = search needs
 
--- src/table.rt:81:13
 returns : tie.Need-returns Inv-loop μ-loop
 returns c = (entries-stop _ (c .before .before .before .loop .t) _ (omega arith) (c .before .before .before .loop .inv .2) (entry-large _ _ (rw (c .before .half .ensures .0) at (c .if1 .taken))), λ e. omega arith)
 
--- src/table.rt:86:12
 word-requires : tie.Need-word-requires Inv-loop μ-loop
 word-requires c κs = search needs
 
--- src/table.rt:87:13
 returns-2 : tie.Need-returns-2 Inv-loop μ-loop
 returns-2 c = (entries-stop _ (c .before .before .before .before .before .loop .t) _ (omega arith) (c .before .before .before .before .before .loop .inv .2) (entry-offset _ _ (rw (c .before .before .before .half .ensures .0) at (c .before .before .if1 .left)) (λ e. c .if2 .taken (c .before .word .ensures .0 ∙ e ∙ sym (c .before .before .before .before .before .loop .inv .1)))), λ e. omega arith)
 
--- src/table.rt:92:16
 mul-end-2 : tie.Need-mul-end-2 Inv-loop μ-loop
 mul-end-2 c = omega arith
 
--- src/table.rt:92:9
 add-end-2 : tie.Need-add-end-2 Inv-loop μ-loop
 add-end-2 c = omega arith
 
--- src/table.rt:93:9
 add-t : tie.Need-add-t Inv-loop μ-loop
 add-t c = omega arith
 
--- src/table.rt:77:5
 loop-less : tie.Need-loop-less Inv-loop μ-loop
 loop-less c = omega arith
 
--- src/table.rt:77:5
 loop-again : tie.Need-loop-again Inv-loop μ-loop
 loop-again c = (omega arith, ap₂ (λ (a b : ℕ). a + 10 * b) (c .before .before .before .before .before .loop .inv .1) (c .before .before .before .half .ensures .0) ∙ sym (start-more _ _ _), first-more _ _ (c .before .before .before .before .before .loop .inv .2) (entry-fine _ _ (rw (c .before .before .before .half .ensures .0) at (c .before .before .if1 .left)) (sym (c .before .word .ensures .0) ∙ c .if2 .left ∙ c .before .before .before .before .before .loop .inv .1)), omega arith)
 
--- src/table.rt:71:1
 returns-3 : tie.Need-returns-3 Inv-loop μ-loop
 returns-3 c = let end : c .before .loop .t ≡ c .before .before .before .args .count = omega arith in (entries-pass _ _ (end ∙ c .before .before .before .pre .0) (c .before .loop .inv .2), λ e. c .before .loop .inv .1 ∙ ap (startAt (c .before .before .before .args .file .now)) end)
 

@@ -19,66 +19,51 @@ use Rattle.job.proofs.table.table_refusal.Reads as table-refusal-reads
 use Rattle.record.proofs.record_refusal.Reads as record-refusal-reads
 use Rattle.little_endian.proofs.half.Reads as half-reads
 
--- src/table.rt:102:9
 table-refusal-requires : tie.Need-table-refusal-requires
 table-refusal-requires c κs = search needs
 
--- src/table.rt:104:9
 returns : tie.Need-returns
 unfolding fileRefusal
 returns c = stop _ (c .before .table-refusal .ensures) (c .if1 .taken)
 
--- src/table.rt:106:9
 half-requires : tie.Need-half-requires
 half-requires c κs = search needs
 
--- src/table.rt:107:9
 entries-of-requires : tie.Need-entries-of-requires
 entries-of-requires c κs = let fine = table-fine _ (sym (c .before .before .table-refusal .ensures) ∙ c .before .if1 .left) in (c .half .ensures .0, rw (c .half .ensures .0) (fine .few))
 
--- src/table.rt:109:9
 returns-2 : tie.Need-returns-2
 unfolding fileRefusal
 returns-2 c = go-on (c .before .before .before .before .before .table-refusal .ensures) (c .before .before .before .before .if1 .left) (stop _ (c .before .before .entries-of .ensures .0) (c .if2 .taken))
 
--- src/table.rt:111:22
 cast-if3 : tie.Need-cast-if3
 cast-if3 c = search needs
 
--- src/table.rt:112:9
 returns-3 : tie.Need-returns-3
 unfolding fileRefusal _then_ _unless_
 returns-3 c = go-on (c .before .before .before .before .before .before .before .table-refusal .ensures) (c .before .before .before .before .before .before .if1 .left) (go-on (c .before .before .before .before .entries-of .ensures .0) (c .before .before .if2 .left) (rw (ne-eqb _ _ (λ e. c .if3 .taken (e ∙ ap (startAt (c .before .before .before .before .before .before .before .before .before .args .file .now)) (sym (c .before .before .before .before .before .half .ensures .0)) ∙ sym (c .before .before .before .before .entries-of .ensures .1 (c .before .before .if2 .left)))))))
 
--- src/table.rt:114:32
 mul-first : tie.Need-mul-first
 mul-first c = search needs
 
--- src/table.rt:114:18
 add-first : tie.Need-add-first
 add-first c = search needs
 
--- src/table.rt:114:17
 cast-first : tie.Need-cast-first
 cast-first c = search needs
 
--- src/table.rt:115:20
 sub-record-refusal : tie.Need-sub-record-refusal
 sub-record-refusal c = let fine : TableFine (c .before .before .before .before .before .before .before .before .before .args .file .now) = table-fine _ (sym (c .before .before .before .before .before .before .before .table-refusal .ensures) ∙ c .before .before .before .before .before .before .if1 .left) in rw (c .before .before .before .before .before .half .ensures .0) (fine .whole)
 
--- src/table.rt:115:20
 part-record-refusal-start : tie.Need-part-record-refusal-start
 part-record-refusal-start c = let fine : TableFine (c .before .before .before .before .before .before .before .before .before .args .file .now) = table-fine _ (sym (c .before .before .before .before .before .before .before .table-refusal .ensures) ∙ c .before .before .before .before .before .before .if1 .left) in rw (c .before .before .before .before .before .half .ensures .0) (fine .whole)
 
--- src/table.rt:115:20
 part-record-refusal-end : tie.Need-part-record-refusal-end
 part-record-refusal-end c = search needs
 
--- src/table.rt:115:5
 record-refusal-requires : tie.Need-record-refusal-requires
 record-refusal-requires c κs = search needs
 
--- src/table.rt:99:1
 returns-4 : tie.Need-returns-4
 unfolding fileRefusal
 returns-4 c = let fine : TableFine (c .before .before .before .before .before .before .before .before .before .before .before .args .file .now) = table-fine _ (sym (c .before .before .before .before .before .before .before .before .before .table-refusal .ensures) ∙ c .before .before .before .before .before .before .before .before .if1 .left) in go-on (c .before .before .before .before .before .before .before .before .before .table-refusal .ensures) (c .before .before .before .before .before .before .before .before .if1 .left) (go-on (c .before .before .before .before .before .before .entries-of .ensures .0) (c .before .before .before .before .if2 .left) (records-checked _ (c .before .before .before .before .before .before .before .half .result) _ fine (c .before .before .before .before .before .before .before .half .ensures .0) (c .before .before .if3 .left ∙ c .before .before .before .before .before .before .entries-of .ensures .1 (c .before .before .before .before .if2 .left) ∙ ap (startAt (c .before .before .before .before .before .before .before .before .before .before .before .args .file .now)) (c .before .before .before .before .before .before .before .half .ensures .0)) (c .record-refusal .ensures)))

@@ -12,59 +12,45 @@ use Rattle.job.proofs.table.file_refusal.Reads as file-refusal-reads
 use Rattle.little_endian.proofs.half.Reads as half-reads
 use Rattle.little_endian.proofs.word.Reads as word-reads
 
--- src/table.rt:121:9
 file-refusal-requires : tie.Need-file-refusal-requires
 file-refusal-requires c κs = search needs
 
--- src/table.rt:123:9
 returns : tie.Need-returns
 returns c = sym (locate-refused _ _ _ (open-declined _ _ _ (c .before .file-refusal .ensures) (c .if1 .taken)) (c .if1 .taken))
 
--- src/table.rt:129:17
 half-requires : tie.Need-half-requires
 half-requires c κs = search needs
 
--- src/table.rt:130:9
 returns-2 : tie.Need-returns-2
 returns-2 c = let e = open-out (c .before .before .before .before .before .args .file .now) (c .before .before .before .before .before .args .trace) _ (sym (c .before .before .before .file-refusal .ensures) ∙ c .before .before .if1 .left) (c .before .half .ensures .0) (c .if2 .taken) in sym (locate-refused _ _ 9 (sym e) (λ z. omega arith))
 
--- src/table.rt:136:28
 mul-at : tie.Need-mul-at
 mul-at c = search needs
 
--- src/table.rt:136:14
 add-at : tie.Need-add-at
 add-at c = search needs
 
--- src/table.rt:137:9
 word-requires : tie.Need-word-requires
 word-requires c κs = search needs
 
--- src/table.rt:138:49
 add-half : tie.Need-add-half
 add-half c = search needs
 
--- src/table.rt:138:38
 half-requires-2 : tie.Need-half-requires-2
 half-requires-2 c κs = search needs
 
--- src/table.rt:138:23
 mul-end : tie.Need-mul-end
 mul-end c = search needs
 
--- src/table.rt:138:15
 add-end : tie.Need-add-end
 add-end c = let h = body-fits _ (file-fine _ (sym (c .before .before .before .before .before .file-refusal .ensures) ∙ c .before .before .before .before .if1 .left)) _ (rw (c .before .before .before .half .ensures .0) at (c .before .before .if2 .left)) in omega (arith, h, c .before .word .ensures .0, c .half2 .ensures .0)
 
--- src/table.rt:141:16
 cast-t11 : tie.Need-cast-t11
 cast-t11 c = search needs
 
--- src/table.rt:142:14
 cast-t12 : tie.Need-cast-t12
 cast-t12 c = search needs
 
--- src/table.rt:118:1
 returns-3 : tie.Need-returns-3
 returns-3 c = sym (locate-found _ _ _ _ (sym (c .before .before .before .before .before .file-refusal .ensures) ∙ c .before .before .before .before .if1 .left) (rw (c .before .before .before .half .ensures .0) at (c .before .before .if2 .left)) (c .before .word .ensures .0) (ap (λ (n : ℕ). c .before .word .result + 10 * n) (c .half2 .ensures .0)))
 

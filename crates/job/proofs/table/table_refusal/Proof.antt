@@ -8,51 +8,40 @@ use Rattle.job.proofs.table.table_refusal.Reads as reads
 use Rattle.job.proofs.table.table_refusal.Lts as lts
 use Rattle.little_endian.proofs.half.Reads as half-reads
 
--- src/table.rt:54:21
 cast-if1 : tie.Need-cast-if1
 cast-if1 c = search needs
 
--- src/table.rt:55:9
 returns : tie.Need-returns
 unfolding tableRefusal _then_ _unless_
 returns c = rw (lt-leb _ _ (c .if1 .taken))
 
--- src/table.rt:57:21
 cast-if2 : tie.Need-cast-if2
 cast-if2 c = search needs
 
--- src/table.rt:58:9
 returns-2 : tie.Need-returns-2
 unfolding tableRefusal _then_ _unless_
 returns-2 c = rw (le-leb _ _ (c .before .if1 .left), lt-leb _ _ (c .if2 .taken))
 
--- src/table.rt:60:9
 half-requires : tie.Need-half-requires
 half-requires c κs = search needs
 
--- src/table.rt:62:9
 returns-3 : tie.Need-returns-3
 unfolding tableRefusal _then_ _unless_
 returns-3 c = rw (le-leb _ _ (c .before .before .before .if1 .left), le-leb _ _ (c .before .before .if2 .left), ← c .before .half .ensures .0, lt-leb _ _ (c .if3 .taken))
 
--- src/table.rt:64:36
 mul-if4 : tie.Need-mul-if4
 mul-if4 c = search needs
 
--- src/table.rt:64:22
 add-if4 : tie.Need-add-if4
 add-if4 c = search needs
 
--- src/table.rt:64:21
 cast-if4 : tie.Need-cast-if4
 cast-if4 c = search needs
 
--- src/table.rt:65:9
 returns-4 : tie.Need-returns-4
 unfolding tableRefusal _then_ _unless_
 returns-4 c = rw (le-leb _ _ (c .before .before .before .before .if1 .left), le-leb _ _ (c .before .before .before .if2 .left), ← c .before .before .half .ensures .0, le-leb _ _ (c .before .if3 .left), lt-leb _ _ (c .if4 .taken))
 
--- src/table.rt:51:1
 returns-5 : tie.Need-returns-5
 unfolding tableRefusal _then_ _unless_
 returns-5 c = rw (le-leb _ _ (c .before .before .before .before .if1 .left), le-leb _ _ (c .before .before .before .if2 .left), ← c .before .before .half .ensures .0, le-leb _ _ (c .before .if3 .left), le-leb _ _ (c .if4 .left))

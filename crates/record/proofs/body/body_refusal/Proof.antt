@@ -9,20 +9,16 @@ use Rattle.record.proofs.body.body_refusal.Lts as lts
 use Rattle.record.proofs.body.length_refusal.Reads as length-refusal-reads
 use Rattle.record.proofs.body.record_refusal.Reads as record-refusal-reads
 
--- src/body.rt:114:9
 length-refusal-requires : tie.Need-length-refusal-requires
 length-refusal-requires c κs = search needs
 
--- src/body.rt:116:9
 returns : tie.Need-returns
 unfolding bodyRefusal
 returns c = stop _ (search needs) (omega arith)
 
--- src/body.rt:118:5
 record-refusal-requires : tie.Need-record-refusal-requires
 record-refusal-requires c κs = search needs
 
--- src/body.rt:111:1
 returns-2 : tie.Need-returns-2
 unfolding bodyRefusal
 returns-2 c = go-on (c .before .before .length-refusal .ensures) (omega arith) (c .record-refusal .ensures)

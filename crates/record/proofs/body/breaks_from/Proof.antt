@@ -8,23 +8,18 @@ use Rattle.record.proofs.body.breaks_rules.Reads as breaks-rules-reads
 use Rattle.little_endian.proofs.byte_at.Reads as byte-at-reads
 use Rattle.record.proofs.layout.fields_from.Reads as fields-from-reads
 
--- src/body.rt:59:18
 fields-from-requires : tie.Need-fields-from-requires
 fields-from-requires c κs = search needs
 
--- src/body.rt:59:57
 add-byte-at : tie.Need-add-byte-at
 add-byte-at c = search needs
 
--- src/body.rt:59:42
 byte-at-requires : tie.Need-byte-at-requires
 byte-at-requires c κs = search needs
 
--- src/body.rt:59:5
 breaks-rules-requires : tie.Need-breaks-rules-requires
 breaks-rules-requires c κs = search needs
 
--- src/body.rt:55:1
 returns : tie.Need-returns
 returns c = c .breaks-rules .ensures ∙ cc
 

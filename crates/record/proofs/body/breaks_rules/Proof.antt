@@ -5,7 +5,6 @@ use Rattle.record.proofs.body.breaks_rules.Tie as tie
 use Rattle.record.proofs.body.breaks_rules.Reads as reads
 use Rattle.record.proofs.body.breaks_rules.Lts as lts
 
--- src/body.rt:30:1
 returns : tie.Need-returns
 unfolding breaksRules
 returns c = refl

@@ -26,15 +26,12 @@ module _ (body : List ℕ) where
   unfolding lengthRefusal _unless_
   right whole few = rw (eq-eqb (length body % recordSize) 0 whole, le-leb (records body) 4096 few)
 
--- src/body.rt:74:9
 returns : tie.Need-returns
 returns c = broken _ (omega arith)
 
--- src/body.rt:77:9
 returns-2 : tie.Need-returns-2
 returns-2 c = long _ (omega arith) (omega arith)
 
--- src/body.rt:70:1
 returns-3 : tie.Need-returns-3
 returns-3 c = right _ (omega arith) (omega arith)
 

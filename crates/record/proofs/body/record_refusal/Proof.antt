@@ -20,37 +20,29 @@ Inv-loop body records k₀ k = (k ≤ records) × (none (breaksAt body) k ≡ tr
 abbrev μ-loop : tie.MeasureT-loop
 μ-loop body records k₀ k = records - k
 
--- src/body.rt:87:5
 loop-holds : tie.Need-loop-holds Inv-loop μ-loop
 loop-holds c = (omega arith, none-zero _)
 
--- src/body.rt:88:30
 mul-breaks-from : tie.Need-mul-breaks-from Inv-loop μ-loop
 mul-breaks-from c = search needs
 
--- src/body.rt:88:12
 breaks-from-requires : tie.Need-breaks-from-requires Inv-loop μ-loop
 breaks-from-requires c κs = search needs
 
--- src/body.rt:89:13
 returns : tie.Need-returns Inv-loop μ-loop
 unfolding recordRefusal breaksAt
 returns c = scan-refused _ _ _ _ (omega arith) (sym (c .before .breaks-from .ensures) ∙ c .if1 .taken)
 
--- src/body.rt:91:9
 add-k : tie.Need-add-k Inv-loop μ-loop
 add-k c = omega arith
 
--- src/body.rt:87:5
 loop-less : tie.Need-loop-less Inv-loop μ-loop
 loop-less c = omega arith
 
--- src/body.rt:87:5
 loop-again : tie.Need-loop-again Inv-loop μ-loop
 unfolding breaksAt
 loop-again c = (omega arith, none-more _ _ (c .before .before .before .loop .inv .1) (sym (c .before .breaks-from .ensures) ∙ c .if1 .left))
 
--- src/body.rt:82:1
 returns-2 : tie.Need-returns-2 Inv-loop μ-loop
 unfolding recordRefusal
 returns-2 c = scan-passed _ _ _ _ (c .before .loop .inv .1) (omega arith) (omega arith)

@@ -9,20 +9,16 @@ use Rattle.record.proofs.body.settled_refusal.Lts as lts
 use Rattle.record.proofs.body.body_refusal.Reads as body-refusal-reads
 use Rattle.record.proofs.body.unknown_refusal.Reads as unknown-refusal-reads
 
--- src/body.rt:125:9
 body-refusal-requires : tie.Need-body-refusal-requires
 body-refusal-requires c κs = search needs
 
--- src/body.rt:127:9
 returns : tie.Need-returns
 unfolding settledRefusal
 returns c = stop _ (search needs) (omega arith)
 
--- src/body.rt:129:5
 unknown-refusal-requires : tie.Need-unknown-refusal-requires
 unknown-refusal-requires c κs = search needs
 
--- src/body.rt:122:1
 returns-2 : tie.Need-returns-2
 unfolding settledRefusal
 returns-2 c = go-on (c .before .before .body-refusal .ensures) (omega arith) (c .unknown-refusal .ensures)

@@ -7,11 +7,9 @@ use Rattle.record.proofs.body.unknown_from.Reads as reads
 use Rattle.record.proofs.body.unknown_from.Lts as lts
 use Rattle.record.proofs.layout.fields_from.Reads as fields-from-reads
 
--- src/body.rt:66:9
 fields-from-requires : tie.Need-fields-from-requires
 fields-from-requires c κs = search needs
 
--- src/body.rt:62:1
 returns : tie.Need-returns
 unfolding hasUnknown
 returns c = ap hasUnknown (c .before .before .fields-from .ensures)

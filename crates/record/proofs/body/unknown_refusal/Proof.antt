@@ -20,37 +20,29 @@ Inv-loop body records i₀ i = (i ≤ records) × (none (unknownAt body) i ≡ t
 abbrev μ-loop : tie.MeasureT-loop
 μ-loop body records i₀ i = records - i
 
--- src/body.rt:101:5
 loop-holds : tie.Need-loop-holds Inv-loop μ-loop
 loop-holds c = (omega arith, none-zero _)
 
--- src/body.rt:102:31
 mul-unknown-from : tie.Need-mul-unknown-from Inv-loop μ-loop
 mul-unknown-from c = search needs
 
--- src/body.rt:102:12
 unknown-from-requires : tie.Need-unknown-from-requires Inv-loop μ-loop
 unknown-from-requires c κs = search needs
 
--- src/body.rt:103:13
 returns : tie.Need-returns Inv-loop μ-loop
 unfolding unknownRefusal unknownAt
 returns c = scan-refused _ _ _ _ (omega arith) (sym (c .before .unknown-from .ensures) ∙ c .if1 .taken)
 
--- src/body.rt:105:9
 add-i : tie.Need-add-i Inv-loop μ-loop
 add-i c = omega arith
 
--- src/body.rt:101:5
 loop-less : tie.Need-loop-less Inv-loop μ-loop
 loop-less c = omega arith
 
--- src/body.rt:101:5
 loop-again : tie.Need-loop-again Inv-loop μ-loop
 unfolding unknownAt
 loop-again c = (omega arith, none-more _ _ (c .before .before .before .loop .inv .1) (sym (c .before .unknown-from .ensures) ∙ c .if1 .left))
 
--- src/body.rt:96:1
 returns-2 : tie.Need-returns-2 Inv-loop μ-loop
 unfolding unknownRefusal
 returns-2 c = scan-passed _ _ _ _ (c .before .loop .inv .1) (omega arith) (omega arith)

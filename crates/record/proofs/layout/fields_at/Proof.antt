@@ -7,20 +7,16 @@ use Rattle.record.proofs.layout.fields_at.Reads as reads
 use Rattle.record.proofs.layout.fields_at.Lts as lts
 use Rattle.record.proofs.layout.fields_from.Reads as fields-from-reads
 
--- src/layout.rt:74:40
 mul-fields-from : tie.Need-mul-fields-from
 mul-fields-from c = search needs
 
--- src/layout.rt:74:13
 fields-from-requires : tie.Need-fields-from-requires
 fields-from-requires c κs = search needs
 
--- src/layout.rt:75:9
 returns : tie.Need-returns
 unfolding readAnswer
 returns c = rw (lt-ltb _ _ (c .before .if1 .taken), ← c .fields-from .ensures)
 
--- src/layout.rt:69:1
 returns-2 : tie.Need-returns-2
 unfolding readAnswer
 returns-2 c = rw (le-ltb _ _ (c .if1 .left))

@@ -50,71 +50,54 @@ same bytes at f e0 e1 e2 e3 e4 e5 e6 e7 e8 =
       «data_latency» = e8 i;
     }
 
--- src/layout.rt:54:32
 add-byte-at : tie.Need-add-byte-at
 add-byte-at c = search needs
 
--- src/layout.rt:54:9
 byte-at-requires : tie.Need-byte-at-requires
 byte-at-requires c κs = search needs
 
--- src/layout.rt:56:30
 add-byte-at-2 : tie.Need-add-byte-at-2
 add-byte-at-2 c = search needs
 
--- src/layout.rt:56:15
 byte-at-requires-2 : tie.Need-byte-at-requires-2
 byte-at-requires-2 c κs = search needs
 
--- src/layout.rt:59:33
 add-byte-at-3 : tie.Need-add-byte-at-3
 add-byte-at-3 c = search needs
 
--- src/layout.rt:59:18
 byte-at-requires-3 : tie.Need-byte-at-requires-3
 byte-at-requires-3 c κs = search needs
 
--- src/layout.rt:60:33
 add-byte-at-4 : tie.Need-add-byte-at-4
 add-byte-at-4 c = search needs
 
--- src/layout.rt:60:18
 byte-at-requires-4 : tie.Need-byte-at-requires-4
 byte-at-requires-4 c κs = search needs
 
--- src/layout.rt:61:32
 add-byte-at-5 : tie.Need-add-byte-at-5
 add-byte-at-5 c = search needs
 
--- src/layout.rt:61:17
 byte-at-requires-5 : tie.Need-byte-at-requires-5
 byte-at-requires-5 c κs = search needs
 
--- src/layout.rt:62:35
 add-byte-at-6 : tie.Need-add-byte-at-6
 add-byte-at-6 c = search needs
 
--- src/layout.rt:62:20
 byte-at-requires-6 : tie.Need-byte-at-requires-6
 byte-at-requires-6 c κs = search needs
 
--- src/layout.rt:63:39
 add-half-at : tie.Need-add-half-at
 add-half-at c = search needs
 
--- src/layout.rt:63:24
 half-at-requires : tie.Need-half-at-requires
 half-at-requires c κs = search needs
 
--- src/layout.rt:64:38
 add-half-at-2 : tie.Need-add-half-at-2
 add-half-at-2 c = search needs
 
--- src/layout.rt:64:23
 half-at-requires-2 : tie.Need-half-at-requires-2
 half-at-requires-2 c κs = search needs
 
--- src/layout.rt:50:1
 returns : tie.Need-returns
 returns c =
     let flags = c .before .before .before .before .before .before .before .byte-at .ensures .0 in

@@ -9,29 +9,23 @@ use Rattle.reporting.proofs.deadlines.deadline_at.Tie as tie
 use Rattle.reporting.proofs.deadlines.deadline_at.Reads as reads
 use Rattle.reporting.proofs.deadlines.deadline_at.Lts as lts
 
--- src/deadlines.rt:68:16
 shared-slice-read-result : tie.Need-shared-slice-read-result
 shared-slice-read-result c = search needs
 
--- src/deadlines.rt:68:9
 returns : tie.Need-returns
 unfolding deadlineAt
 returns c = rw (c .before .if1 .taken)
 
--- src/deadlines.rt:72:16
 mul-result : tie.Need-mul-result
 mul-result c = search needs
 
--- src/deadlines.rt:72:16
 shared-slice-read-result-2 : tie.Need-shared-slice-read-result-2
 shared-slice-read-result-2 c = search needs
 
--- src/deadlines.rt:72:9
 returns-2 : tie.Need-returns-2
 unfolding deadlineAt
 returns-2 c = rw (ne-eqb _ _ (c .before .before .if1 .left))
 
--- src/deadlines.rt:64:1
 returns-3 : tie.Need-returns-3
 unfolding deadlineAt
 returns-3 c = rw (ne-eqb _ _ (c .before .if1 .left), List·getD-eq-default {A = ℕ} _ 0 (c .if2 .left))

@@ -19,75 +19,57 @@ Inv-loop word cycles₀ i₀ cycles i = (i ≤ length word) × (cycles < 4294967
 abbrev μ-loop : tie.MeasureT-loop
 μ-loop word cycles₀ i₀ cycles i = length word - i
 
--- src/deadlines.rt:42:9
 no-deadline-requires : tie.Need-no-deadline-requires Inv-loop μ-loop
 no-deadline-requires c κs = tt
 
--- src/deadlines.rt:42:9
 returns : tie.Need-returns Inv-loop μ-loop
 returns c = c .no-deadline .ensures ∙ sym (word-empty (c .before .before .before .args .word .now) (omega (arith, c .before .if1 .taken)))
 
--- src/deadlines.rt:46:5
 loop-holds : tie.Need-loop-holds Inv-loop μ-loop
 loop-holds c = (omega arith, omega arith, reading-starts _)
 
--- src/deadlines.rt:47:25
 shared-slice-read-wide : tie.Need-shared-slice-read-wide Inv-loop μ-loop
 shared-slice-read-wide c = c .before .loop-test .taken
 
--- src/deadlines.rt:47:13
 wide-requires : tie.Need-wide-requires Inv-loop μ-loop
 wide-requires c κs = tt
 
--- src/deadlines.rt:48:13
 is-digit-requires : tie.Need-is-digit-requires Inv-loop μ-loop
 is-digit-requires c κs = tt
 
--- src/deadlines.rt:49:13
 no-deadline-requires-2 : tie.Need-no-deadline-requires-2 Inv-loop μ-loop
 no-deadline-requires-2 c κs = tt
 
--- src/deadlines.rt:49:13
 returns-2 : tie.Need-returns-2 Inv-loop μ-loop
 returns-2 c = c .no-deadline2 .ensures ∙ sym (word-stray _ _ _ (c .before .before .before .before .before .loop-test .taken) (c .before .before .before .wide .ensures .0) (sym (c .before .before .is-digit .ensures) ∙ not-true _ (c .before .if2 .taken)) (c .before .before .before .before .before .before .loop .inv .2))
 
--- src/deadlines.rt:51:18
 mul-cycles : tie.Need-mul-cycles Inv-loop μ-loop
 mul-cycles c = omega (arith, c .before .before .before .before .before .loop .inv .1)
 
--- src/deadlines.rt:51:33
 sub-cycles : tie.Need-sub-cycles Inv-loop μ-loop
 sub-cycles c = omega (arith, digit-within _ (sym (c .before .is-digit .ensures) ∙ not-false _ (c .if2 .left)) .0)
 
--- src/deadlines.rt:51:18
 add-cycles : tie.Need-add-cycles Inv-loop μ-loop
 add-cycles c = omega (arith, c .before .before .before .before .before .loop .inv .1, digit-within _ (sym (c .before .is-digit .ensures) ∙ not-false _ (c .if2 .left)) .1)
 
--- src/deadlines.rt:53:13
 no-deadline-requires-3 : tie.Need-no-deadline-requires-3 Inv-loop μ-loop
 no-deadline-requires-3 c κs = tt
 
--- src/deadlines.rt:53:13
 returns-3 : tie.Need-returns-3 Inv-loop μ-loop
 returns-3 c = let word = c .before .before .before .before .before .before .before .before .before .before .args .word .now in let n = 10 * c .before .before .before .before .before .before .before .loop .cycles + (c .before .before .before .before .wide .result - 48) in c .no-deadline3 .ensures ∙ sym (word-large word (c .before .before .before .before .before .before .before .loop .i + 1) n (omega (arith, c .before .if3 .taken)) (reading-goes word (c .before .before .before .before .before .before .before .loop .i) (c .before .before .before .before .before .before .before .loop .cycles) (c .before .before .before .before .before .before .loop-test .taken) (c .before .before .before .before .wide .ensures .0) (sym (c .before .before .before .is-digit .ensures) ∙ not-false _ (c .before .before .if2 .left)) refl (c .before .before .before .before .before .before .before .loop .inv .2)))
 
--- src/deadlines.rt:55:9
 add-i : tie.Need-add-i Inv-loop μ-loop
 add-i c = omega (arith, c .before .before .before .before .before .loop-test .taken)
 
--- src/deadlines.rt:46:5
 loop-less : tie.Need-loop-less Inv-loop μ-loop
 loop-less c = omega (arith, c .before .before .before .before .before .loop-test .taken)
 
--- src/deadlines.rt:46:5
 loop-again : tie.Need-loop-again Inv-loop μ-loop
 loop-again c = (omega (arith, c .before .before .before .before .before .loop-test .taken), omega (arith, c .if3 .left), reading-goes _ _ _ (c .before .before .before .before .before .loop-test .taken) (c .before .before .before .wide .ensures .0) (sym (c .before .before .is-digit .ensures) ∙ not-false _ (c .before .if2 .left)) refl (c .before .before .before .before .before .before .loop .inv .2))
 
--- src/deadlines.rt:59:17
 cast-t14 : tie.Need-cast-t14 Inv-loop μ-loop
 cast-t14 c = omega (arith, c .before .loop .inv .1)
 
--- src/deadlines.rt:38:1
 returns-4 : tie.Need-returns-4 Inv-loop μ-loop
 returns-4 c = let i = c .before .loop .inv in sym (word-read _ _ _ (omega (arith, c .loop-test .left, i .0)) (omega (arith, c .before .before .if1 .left)) (i .1) (i .2))
 

@@ -7,7 +7,6 @@ use Rattle.reporting.proofs.deadlines.is_digit.Tie as tie
 use Rattle.reporting.proofs.deadlines.is_digit.Reads as reads
 use Rattle.reporting.proofs.deadlines.is_digit.Lts as lts
 
--- src/deadlines.rt:22:1
 returns : tie.Need-returns
 unfolding isDigit _and_
 returns c = search needs

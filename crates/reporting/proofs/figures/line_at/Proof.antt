@@ -15,23 +15,18 @@ use Rattle.job.proofs.locate.Reads as locate-reads
 use Rattle.reporting.proofs.deadlines.deadline_at.Reads as deadline-at-reads
 use Rattle.reporting.proofs.figures.line_of.Reads as line-of-reads
 
--- src/figures.rt:73:9
 locate-requires : tie.Need-locate-requires
 locate-requires c κs = search needs
 
--- src/figures.rt:74:9
 deadline-at-requires : tie.Need-deadline-at-requires
 deadline-at-requires c κs = search needs
 
--- src/figures.rt:75:13
 cut-requires : tie.Need-cut-requires
 cut-requires c κs = search needs
 
--- src/figures.rt:75:5
 line-of-requires : tie.Need-line-of-requires
 line-of-requires c κs = let a = c .before .before .before .before .before .args in ap bodyRefusal (c .cut .ensures ∙ located (a .file .now) (a .t) _ (c .before .before .locate .ensures) .1) ∙ opened-accepted (a .file .now) (a .t) (c .before .before .before .before .before .pre)
 
--- src/figures.rt:69:1
 returns : tie.Need-returns
 unfolding lineAt
 returns c = let a = c .before .before .before .before .before .before .args in c .line-of .ensures ∙ ap₂ (λ (body : List ℕ) (deadline : ℕ). lineOf (a .t) (traceOf body) deadline) (c .before .cut .ensures ∙ located (a .file .now) (a .t) _ (c .before .before .before .locate .ensures) .1) (c .before .before .deadline-at .ensures)

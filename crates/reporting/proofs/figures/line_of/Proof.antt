@@ -16,19 +16,15 @@ use Rattle.reporting.proofs.figures.line_of.Lts as lts
 use Rattle.reporting.proofs.figures.unknown_flags.Reads as unknown-flags-reads
 use Rattle.timing.proofs.best_worst.Reads as best-worst-reads
 
--- src/figures.rt:57:9
 best-worst-requires : tie.Need-best-worst-requires
 best-worst-requires c κs = search needs
 
--- src/figures.rt:58:9
 unknown-flags-requires : tie.Need-unknown-flags-requires
 unknown-flags-requires c κs = search needs
 
--- src/figures.rt:61:23
 cast-t8 : tie.Need-cast-t8
 cast-t8 c = omega (arith, few-records _ (c .before .before .before .pre))
 
--- src/figures.rt:53:1
 returns : tie.Need-returns
 unfolding lineOf best worst flagOf
 returns c = let body = c .before .before .before .args .body .now in let times = c .before .best-worst .ensures ∙ sym (best-worst-given body (c .before .before .before .pre) refl refl) in rw (ap (λ (t : BestWorst). t .best) times, ap (λ (t : BestWorst). t .worst) times, c .unknown-flags .ensures, length-traceOf body)

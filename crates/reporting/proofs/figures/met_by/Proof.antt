@@ -8,12 +8,10 @@ use Rattle.reporting.proofs.figures.met_by.Tie as tie
 use Rattle.reporting.proofs.figures.met_by.Reads as reads
 use Rattle.reporting.proofs.figures.met_by.Lts as lts
 
--- src/figures.rt:79:1
 returns : tie.Need-returns
 unfolding met
 returns c = let l = c .before .before .args .line in rw (le-leb (l .worst) (l .deadline) (omega (arith, c .if1 .taken))) (refl, omega arith)
 
--- src/figures.rt:79:1
 returns-2 : tie.Need-returns-2
 unfolding met
 returns-2 c = let l = c .before .before .args .line in rw (lt-leb (l .worst) (l .deadline) (omega (arith, c .if1 .left))) (refl, omega arith)

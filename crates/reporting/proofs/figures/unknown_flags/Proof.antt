@@ -29,41 +29,32 @@ Inv-loop body records unknown₀ k₀ unknown k = (k ≤ records) × (unknown �
 abbrev μ-loop : tie.MeasureT-loop
 μ-loop body records unknown₀ k₀ unknown k = records - k
 
--- src/figures.rt:42:19
 cast-records : tie.Need-cast-records Inv-loop μ-loop
 cast-records c = omega (arith, few-records _ (c .before .pre))
 
--- src/figures.rt:45:5
 loop-holds : tie.Need-loop-holds Inv-loop μ-loop
 unfolding read-first firsts unknownFlags
 loop-holds c = (omega arith, refl, omega arith)
 
--- src/figures.rt:46:13
 fields-at-requires : tie.Need-fields-at-requires Inv-loop μ-loop
 fields-at-requires c κs = tt
 
--- src/figures.rt:47:20
 unknowns-of-requires : tie.Need-unknowns-of-requires Inv-loop μ-loop
 unknowns-of-requires c κs = tt
 
--- src/figures.rt:47:9
 add-unknown : tie.Need-add-unknown Inv-loop μ-loop
 add-unknown c = omega (arith, c .before .before .before .loop .inv .2, c .unknowns-of .ensures .1, c .before .before .loop-test .taken, few-records _ (c .before .before .before .before .before .pre))
 
--- src/figures.rt:48:9
 add-k : tie.Need-add-k Inv-loop μ-loop
 add-k c = omega (arith, c .before .before .loop-test .taken, few-records _ (c .before .before .before .before .before .pre))
 
--- src/figures.rt:45:5
 loop-less : tie.Need-loop-less Inv-loop μ-loop
 loop-less c = omega (arith, c .before .before .loop-test .taken)
 
--- src/figures.rt:45:5
 loop-again : tie.Need-loop-again Inv-loop μ-loop
 unfolding read-first firsts instructionOf
 loop-again c = let body = c .before .before .before .before .before .args .body .now in let k = c .before .before .before .loop .k in let here = ap (λ (f : Fields). isUnknown (flagOf (f .fetch)) + isUnknown (flagOf (f .access))) (read-fields body k (c .before .before .loop-test .taken) (c .before .fields-at .ensures)) in (omega (arith, c .before .before .loop-test .taken), ap₂ (λ (a b : ℕ). a + b) (c .before .before .before .loop .inv .1) (c .unknowns-of .ensures .0 ∙ here) ∙ sym (unknown-more (read-first body k) (instructionOf (fieldsAt body k))) ∙ ap (λ (n : ℕ). unknownFlags (read-first body n)) (sym (add-one k)), omega (arith, c .before .before .before .loop .inv .2, c .unknowns-of .ensures .1))
 
--- src/figures.rt:38:1
 returns : tie.Need-returns Inv-loop μ-loop
 unfolding read-first traceOf
 returns c = let body = c .before .before .before .args .body .now in let end : c .before .loop .k ≡ records body = omega (arith, c .loop-test .left, c .before .loop .inv .0) in c .before .loop .inv .1 ∙ ap (λ (n : ℕ). unknownFlags (read-first body n)) end

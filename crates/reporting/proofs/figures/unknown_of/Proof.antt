@@ -7,11 +7,9 @@ use Rattle.reporting.proofs.figures.unknown_of.Tie as tie
 use Rattle.reporting.proofs.figures.unknown_of.Reads as reads
 use Rattle.reporting.proofs.figures.unknown_of.Lts as lts
 
--- src/figures.rt:26:1
 returns : tie.Need-returns
 returns c = (sym (flag-unknown _ (c .if1 .taken)), omega arith)
 
--- src/figures.rt:26:1
 returns-2 : tie.Need-returns-2
 returns-2 c = (sym (flag-known _ (c .if1 .left)), omega arith)
 

@@ -7,19 +7,15 @@ use Rattle.reporting.proofs.figures.unknowns_of.Reads as reads
 use Rattle.reporting.proofs.figures.unknowns_of.Lts as lts
 use Rattle.reporting.proofs.figures.unknown_of.Reads as unknown-of-reads
 
--- src/figures.rt:35:5
 unknown-of-requires : tie.Need-unknown-of-requires
 unknown-of-requires c κs = search needs
 
--- src/figures.rt:35:27
 unknown-of-requires-2 : tie.Need-unknown-of-requires-2
 unknown-of-requires-2 c κs = search needs
 
--- src/figures.rt:35:5
 add-result : tie.Need-add-result
 add-result c = search needs
 
--- src/figures.rt:32:1
 returns : tie.Need-returns
 returns c = (omega (arith, c .before .unknown-of .ensures .0, c .unknown-of2 .ensures .0), omega (arith, c .before .unknown-of .ensures .1, c .unknown-of2 .ensures .1))
 

@@ -16,19 +16,15 @@ use Rattle.reporting.proofs.lines.put_column.Lts as lts
 use Rattle.text.proofs.put_padding.Reads as put-padding-reads
 use Rattle.text.proofs.put_right.Reads as put-right-reads
 
--- src/lines.rt:46:9
 put-padding-requires : tie.Need-put-padding-requires
 put-padding-requires c κs = search needs
 
--- src/lines.rt:47:5
 put-right-requires : tie.Need-put-right-requires
 put-right-requires c κs = let gap = length-spaces 2 in (c .before .before .before .before .before .before .pre .0, omega (arith, c .before .before .before .before .before .before .pre .1, c .before .before .before .put-padding .ensures .0, c .before .before .before .put-padding .kept .0))
 
--- src/lines.rt:42:1
 same-length : tie.Need-same-length
 same-length c = search needs
 
--- src/lines.rt:42:1
 returns : tie.Need-returns
 unfolding column
 returns c = let a = c .before .before .before .before .before .before .before .before .before .args in let both : Wrote (a .at) (column (a .width) (decimal (a .n))) (a .out .now) (c .before .before .put-right .last .0) (c .before .before .put-right .result) = wrote-then (a .at) _ _ (a .out .now) (c .before .before .before .before .before .before .put-padding .ensures) (c .before .before .put-right .ensures) in let wide = column-width (a .width) (decimal (a .n)) (c .before .before .before .before .before .before .before .before .before .pre .0) in (both .0 ∙ ap (λ (n : ℕ). a .at + n) wide ∙ sym (add-assoc (a .at) 2 (a .width)), both)

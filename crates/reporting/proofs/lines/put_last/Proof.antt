@@ -10,35 +10,27 @@ use Rattle.reporting.proofs.lines.put_last.Lts as lts
 use Rattle.text.proofs.put_decimal.Reads as put-decimal-reads
 use Rattle.text.proofs.put_text.Reads as put-text-reads
 
--- src/lines.rt:68:9
 put-decimal-requires : tie.Need-put-decimal-requires
 put-decimal-requires c κs = omega (arith, c .before .before .pre, decimal-short (c .before .before .args .met))
 
--- src/lines.rt:69:35
 slice-aggregate-put-text : tie.Need-slice-aggregate-put-text
 slice-aggregate-put-text c = search needs
 
--- src/lines.rt:69:9
 put-text-requires : tie.Need-put-text-requires
 put-text-requires c κs = omega (arith, c .before .before .before .before .before .before .before .pre, decimal-short (c .before .before .before .before .before .before .before .args .met), c .before .before .before .before .put-decimal .ensures .0, c .before .before .before .before .put-decimal .kept .0)
 
--- src/lines.rt:70:9
 put-decimal-requires-2 : tie.Need-put-decimal-requires-2
 put-decimal-requires-2 c κs = omega (arith, c .before .before .before .before .before .before .before .before .before .before .before .pre, decimal-short (c .before .before .before .before .before .before .before .before .before .before .before .args .met), decimal-short (c .before .before .before .before .before .before .before .before .before .before .before .args .all), c .before .before .before .before .before .before .before .before .put-decimal .ensures .0, c .before .before .before .before .before .before .before .before .put-decimal .kept .0, c .before .before .before .put-text .ensures .0, c .before .before .before .put-text .kept .0)
 
--- src/lines.rt:71:24
 slice-aggregate-put-text-2 : tie.Need-slice-aggregate-put-text-2
 slice-aggregate-put-text-2 c = search needs
 
--- src/lines.rt:71:5
 put-text-requires-2 : tie.Need-put-text-requires-2
 put-text-requires-2 c κs = omega (arith, c .before .before .before .before .before .before .before .before .before .before .before .before .before .before .before .before .pre, decimal-short (c .before .before .before .before .before .before .before .before .before .before .before .before .before .before .before .before .args .met), decimal-short (c .before .before .before .before .before .before .before .before .before .before .before .before .before .before .before .before .args .all), c .before .before .before .before .before .before .before .before .before .before .before .before .before .put-decimal .ensures .0, c .before .before .before .before .before .before .before .before .before .before .before .before .before .put-decimal .kept .0, c .before .before .before .before .before .before .before .before .put-text .ensures .0, c .before .before .before .before .before .before .before .before .put-text .kept .0, c .before .before .before .before .put-decimal2 .ensures .0, c .before .before .before .before .put-decimal2 .kept .0)
 
--- src/lines.rt:64:1
 same-length : tie.Need-same-length
 same-length c = search needs
 
--- src/lines.rt:64:1
 returns : tie.Need-returns
 unfolding lastText
 returns c = wrote-then _ _ _ _ (wrote-then _ _ _ _ (wrote-then _ _ _ _ (c .before .before .before .before .before .before .before .before .before .before .before .before .before .before .before .before .put-decimal .ensures) (c .before .before .before .before .before .before .before .before .before .before .before .put-text .ensures)) (c .before .before .before .before .before .before .before .put-decimal2 .ensures)) (c .before .before .put-text2 .ensures)

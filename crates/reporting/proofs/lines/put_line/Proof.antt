@@ -13,43 +13,33 @@ use Rattle.reporting.proofs.lines.put_column.Reads as put-column-reads
 use Rattle.reporting.proofs.lines.put_margin.Reads as put-margin-reads
 use Rattle.text.proofs.put_byte.Reads as put-byte-reads
 
--- src/lines.rt:54:9
 put-margin-requires : tie.Need-put-margin-requires
 put-margin-requires c κs = search needs
 
--- src/lines.rt:55:9
 put-column-requires : tie.Need-put-column-requires
 put-column-requires c κs = (five-digits _ (c .before .before .before .before .before .before .pre .0), omega (arith, c .before .before .before .before .before .before .pre .2, c .before .before .before .put-margin .ensures .0, c .before .before .before .put-margin .kept .0))
 
--- src/lines.rt:56:9
 put-column-requires-2 : tie.Need-put-column-requires-2
 put-column-requires-2 c κs = (omega (arith, decimal-short (c .before .before .before .before .before .before .before .before .before .before .args .line .instructions)), omega (arith, c .before .before .before .before .before .before .before .before .before .before .pre .2, c .before .before .before .before .before .before .before .put-margin .ensures .0, c .before .before .before .before .before .before .before .put-margin .kept .0, c .before .before .before .put-column .ensures .0, c .before .before .before .put-column .kept .0))
 
--- src/lines.rt:57:9
 put-column-requires-3 : tie.Need-put-column-requires-3
 put-column-requires-3 c κs = (seven-digits _ (c .before .before .before .before .before .before .before .before .before .before .before .before .before .before .pre .1), omega (arith, c .before .before .before .before .before .before .before .before .before .before .before .before .before .before .pre .2, c .before .before .before .before .before .before .before .before .before .before .before .put-margin .ensures .0, c .before .before .before .before .before .before .before .before .before .before .before .put-margin .kept .0, c .before .before .before .before .before .before .before .put-column .ensures .0, c .before .before .before .before .before .before .before .put-column .kept .0, c .before .before .before .put-column2 .ensures .0, c .before .before .before .put-column2 .kept .0))
 
--- src/lines.rt:58:9
 put-column-requires-4 : tie.Need-put-column-requires-4
 put-column-requires-4 c κs = (decimal-short _, omega (arith, c .before .before .before .before .before .before .before .before .before .before .before .before .before .before .before .before .before .before .pre .2, c .before .before .before .before .before .before .before .before .before .before .before .before .before .before .before .put-margin .ensures .0, c .before .before .before .before .before .before .before .before .before .before .before .before .before .before .before .put-margin .kept .0, c .before .before .before .before .before .before .before .before .before .before .before .put-column .ensures .0, c .before .before .before .before .before .before .before .before .before .before .before .put-column .kept .0, c .before .before .before .before .before .before .before .put-column2 .ensures .0, c .before .before .before .before .before .before .before .put-column2 .kept .0, c .before .before .before .put-column3 .ensures .0, c .before .before .before .put-column3 .kept .0))
 
--- src/lines.rt:59:9
 put-column-requires-5 : tie.Need-put-column-requires-5
 put-column-requires-5 c κs = (decimal-short _, omega (arith, c .before .before .before .before .before .before .before .before .before .before .before .before .before .before .before .before .before .before .before .before .before .before .pre .2, c .before .before .before .before .before .before .before .before .before .before .before .before .before .before .before .before .before .before .before .put-margin .ensures .0, c .before .before .before .before .before .before .before .before .before .before .before .before .before .before .before .before .before .before .before .put-margin .kept .0, c .before .before .before .before .before .before .before .before .before .before .before .before .before .before .before .put-column .ensures .0, c .before .before .before .before .before .before .before .before .before .before .before .before .before .before .before .put-column .kept .0, c .before .before .before .before .before .before .before .before .before .before .before .put-column2 .ensures .0, c .before .before .before .before .before .before .before .before .before .before .before .put-column2 .kept .0, c .before .before .before .before .before .before .before .put-column3 .ensures .0, c .before .before .before .before .before .before .before .put-column3 .kept .0, c .before .before .before .put-column4 .ensures .0, c .before .before .before .put-column4 .kept .0))
 
--- src/lines.rt:60:9
 put-column-requires-6 : tie.Need-put-column-requires-6
 put-column-requires-6 c κs = (decimal-short _, omega (arith, c .before .before .before .before .before .before .before .before .before .before .before .before .before .before .before .before .before .before .before .before .before .before .before .before .before .before .pre .2, c .before .before .before .before .before .before .before .before .before .before .before .before .before .before .before .before .before .before .before .before .before .before .before .put-margin .ensures .0, c .before .before .before .before .before .before .before .before .before .before .before .before .before .before .before .before .before .before .before .before .before .before .before .put-margin .kept .0, c .before .before .before .before .before .before .before .before .before .before .before .before .before .before .before .before .before .before .before .put-column .ensures .0, c .before .before .before .before .before .before .before .before .before .before .before .before .before .before .before .before .before .before .before .put-column .kept .0, c .before .before .before .before .before .before .before .before .before .before .before .before .before .before .before .put-column2 .ensures .0, c .before .before .before .before .before .before .before .before .before .before .before .before .before .before .before .put-column2 .kept .0, c .before .before .before .before .before .before .before .before .before .before .before .put-column3 .ensures .0, c .before .before .before .before .before .before .before .before .before .before .before .put-column3 .kept .0, c .before .before .before .before .before .before .before .put-column4 .ensures .0, c .before .before .before .before .before .before .before .put-column4 .kept .0, c .before .before .before .put-column5 .ensures .0, c .before .before .before .put-column5 .kept .0))
 
--- src/lines.rt:61:5
 put-byte-requires : tie.Need-put-byte-requires
 put-byte-requires c κs = omega (arith, c .before .before .before .before .before .before .before .before .before .before .before .before .before .before .before .before .before .before .before .before .before .before .before .before .before .before .before .before .before .before .pre .2, c .before .before .before .before .before .before .before .before .before .before .before .before .before .before .before .before .before .before .before .before .before .before .before .before .before .before .before .put-margin .ensures .0, c .before .before .before .before .before .before .before .before .before .before .before .before .before .before .before .before .before .before .before .before .before .before .before .before .before .before .before .put-margin .kept .0, c .before .before .before .before .before .before .before .before .before .before .before .before .before .before .before .before .before .before .before .before .before .before .before .put-column .ensures .0, c .before .before .before .before .before .before .before .before .before .before .before .before .before .before .before .before .before .before .before .before .before .before .before .put-column .kept .0, c .before .before .before .before .before .before .before .before .before .before .before .before .before .before .before .before .before .before .before .put-column2 .ensures .0, c .before .before .before .before .before .before .before .before .before .before .before .before .before .before .before .before .before .before .before .put-column2 .kept .0, c .before .before .before .before .before .before .before .before .before .before .before .before .before .before .before .put-column3 .ensures .0, c .before .before .before .before .before .before .before .before .before .before .before .before .before .before .before .put-column3 .kept .0, c .before .before .before .before .before .before .before .before .before .before .before .put-column4 .ensures .0, c .before .before .before .before .before .before .before .before .before .before .before .put-column4 .kept .0, c .before .before .before .before .before .before .before .put-column5 .ensures .0, c .before .before .before .before .before .before .before .put-column5 .kept .0, c .before .before .before .put-column6 .ensures .0, c .before .before .before .put-column6 .kept .0)
 
--- src/lines.rt:50:1
 same-length : tie.Need-same-length
 same-length c = c .before .before .put-byte .kept .0 ∙ c .before .before .before .before .before .before .put-column6 .kept .0 ∙ c .before .before .before .before .before .before .before .before .before .before .put-column5 .kept .0 ∙ c .before .before .before .before .before .before .before .before .before .before .before .before .before .before .put-column4 .kept .0 ∙ c .before .before .before .before .before .before .before .before .before .before .before .before .before .before .before .before .before .before .put-column3 .kept .0 ∙ c .before .before .before .before .before .before .before .before .before .before .before .before .before .before .before .before .before .before .before .before .before .before .put-column2 .kept .0 ∙ c .before .before .before .before .before .before .before .before .before .before .before .before .before .before .before .before .before .before .before .before .before .before .before .before .before .before .put-column .kept .0 ∙ c .before .before .before .before .before .before .before .before .before .before .before .before .before .before .before .before .before .before .before .before .before .before .before .before .before .before .before .before .before .before .put-margin .kept .0
 
--- src/lines.rt:50:1
 returns : tie.Need-returns
 unfolding lineText
 returns c = let a = c .before .before .before .before .before .before .before .before .before .before .before .before .before .before .before .before .before .before .before .before .before .before .before .before .before .before .before .before .before .before .before .before .before .args in ends (a .at) 78 _ (a .out .now) (line-width (a .line) (c .before .before .before .before .before .before .before .before .before .before .before .before .before .before .before .before .before .before .before .before .before .before .before .before .before .before .before .before .before .before .before .before .before .pre .0) (c .before .before .before .before .before .before .before .before .before .before .before .before .before .before .before .before .before .before .before .before .before .before .before .before .before .before .before .before .before .before .before .before .before .pre .1)) (wrote-then _ _ _ _ (wrote-then _ _ _ _ (wrote-then _ _ _ _ (wrote-then _ _ _ _ (wrote-then _ _ _ _ (wrote-then _ _ _ _ (wrote-then _ _ _ _ (c .before .before .before .before .before .before .before .before .before .before .before .before .before .before .before .before .before .before .before .before .before .before .before .before .before .before .before .before .before .before .put-margin .ensures .1) (c .before .before .before .before .before .before .before .before .before .before .before .before .before .before .before .before .before .before .before .before .before .before .before .before .before .before .put-column .ensures .1)) (c .before .before .before .before .before .before .before .before .before .before .before .before .before .before .before .before .before .before .before .before .before .before .put-column2 .ensures .1)) (c .before .before .before .before .before .before .before .before .before .before .before .before .before .before .before .before .before .before .put-column3 .ensures .1)) (c .before .before .before .before .before .before .before .before .before .before .before .before .before .before .put-column4 .ensures .1)) (c .before .before .before .before .before .before .before .before .before .before .put-column5 .ensures .1)) (c .before .before .before .before .before .before .put-column6 .ensures .1)) (c .before .before .put-byte .ensures))

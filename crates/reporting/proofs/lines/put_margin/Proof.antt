@@ -12,43 +12,33 @@ use Rattle.reporting.proofs.lines.put_margin.Lts as lts
 use Rattle.reporting.proofs.lines.put_signed.Reads as put-signed-reads
 use Rattle.text.proofs.put_right.Reads as put-right-reads
 
--- src/lines.rt:34:9
 put-right-requires : tie.Need-put-right-requires
 put-right-requires c κs = let digits = decimal-short 0 in (omega arith, c .before .before .before .pre)
 
--- src/lines.rt:34:9
 same-length : tie.Need-same-length
 same-length c = search needs
 
--- src/lines.rt:34:9
 returns : tie.Need-returns
 returns c = let a = c .before .before .before .before .before .before .args in ends (a .at) 11 _ (a .out .now) (margin-width (a .deadline) (a .worst)) (as-text _ _ (ap (right 11) (margin-none (a .deadline) (a .worst) (c .before .before .before .before .if1 .taken))) (c .before .before .put-right .ensures))
 
--- src/lines.rt:37:42
 sub-put-signed : tie.Need-sub-put-signed
 sub-put-signed c = search needs
 
--- src/lines.rt:37:9
 put-signed-requires : tie.Need-put-signed-requires
 put-signed-requires c κs = search needs
 
--- src/lines.rt:37:9
 same-length-2 : tie.Need-same-length-2
 same-length-2 c = search needs
 
--- src/lines.rt:37:9
 returns-2 : tie.Need-returns-2
 returns-2 c = let a = c .before .before .before .before .before .before .before .args in ends (a .at) 11 _ (a .out .now) (margin-width (a .deadline) (a .worst)) (as-text _ _ (ap (right 11) (margin-over (a .deadline) (a .worst) (c .before .before .before .before .if2 .taken))) (c .before .before .put-signed .ensures))
 
--- src/lines.rt:39:5
 put-signed-requires-2 : tie.Need-put-signed-requires-2
 put-signed-requires-2 c κs = search needs
 
--- src/lines.rt:29:1
 same-length-3 : tie.Need-same-length-3
 same-length-3 c = search needs
 
--- src/lines.rt:29:1
 returns-3 : tie.Need-returns-3
 returns-3 c = let a = c .before .before .before .before .before .before .before .args in ends (a .at) 11 _ (a .out .now) (margin-width (a .deadline) (a .worst)) (as-text _ _ (ap (right 11) (margin-under (a .deadline) (a .worst) (omega (arith, c .before .before .before .before .if2 .left, c .before .before .before .before .before .if1 .left)))) (c .before .before .put-signed2 .ensures))
 

@@ -14,31 +14,24 @@ use Rattle.text.proofs.put_padding.Reads as put-padding-reads
 use Rattle.text.proofs.put_byte.Reads as put-byte-reads
 use Rattle.text.proofs.put_decimal.Reads as put-decimal-reads
 
--- src/lines.rt:24:43
 digits-requires : tie.Need-digits-requires
 digits-requires c κs = search needs
 
--- src/lines.rt:24:39
 add-put-padding : tie.Need-add-put-padding
 add-put-padding c = omega (arith, c .digits .ensures, decimal-short (c .before .before .before .args .n))
 
--- src/lines.rt:24:9
 put-padding-requires : tie.Need-put-padding-requires
 put-padding-requires c κs = search needs
 
--- src/lines.rt:25:9
 put-byte-requires : tie.Need-put-byte-requires
 put-byte-requires c κs = let l = length-spaces (11 - (1 + c .before .before .before .before .digits .result)) in omega (arith, c .before .before .before .before .before .before .before .pre, c .before .before .before .before .digits .ensures, decimal-short (c .before .before .before .before .before .before .before .args .n), c .before .before .before .put-padding .ensures .0, c .before .before .before .put-padding .kept .0)
 
--- src/lines.rt:26:5
 put-decimal-requires : tie.Need-put-decimal-requires
 put-decimal-requires c κs = let l = length-spaces (11 - (1 + c .before .before .before .before .before .before .before .before .digits .result)) in omega (arith, c .before .before .before .before .before .before .before .before .before .before .before .pre, c .before .before .before .before .before .before .before .before .digits .ensures, decimal-short (c .before .before .before .before .before .before .before .before .before .before .before .args .n), c .before .before .before .before .before .before .before .put-padding .ensures .0, c .before .before .before .before .before .before .before .put-padding .kept .0, c .before .before .before .put-byte .ensures .0, c .before .before .before .put-byte .kept .0)
 
--- src/lines.rt:20:1
 same-length : tie.Need-same-length
 same-length c = search needs
 
--- src/lines.rt:20:1
 returns : tie.Need-returns
 returns c = let a = c .before .before .before .before .before .before .before .before .before .before .before .before .before .before .args in wrote-right (a .at) 11 _ _ (a .out .now) (omega (arith, c .before .before .before .before .before .before .before .before .before .before .before .digits .ensures)) (c .before .before .before .before .before .before .before .before .before .before .put-padding .ensures) (wrote-then _ (a .sign ∷ []) _ _ (c .before .before .before .before .before .before .put-byte .ensures) (c .before .before .put-decimal .ensures))
 

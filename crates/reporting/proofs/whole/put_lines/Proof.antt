@@ -23,45 +23,35 @@ Inv-loop file deadlines out₀ at all end₀ met₀ t₀ out end met t = (t ≤ 
 abbrev μ-loop : tie.MeasureT-loop
 μ-loop file deadlines out₀ at all end₀ met₀ t₀ out end met t = all - t
 
--- src/whole.rt:48:5
 loop-holds : tie.Need-loop-holds Inv-loop μ-loop
 unfolding linesText metBelow
 loop-holds c = (omega arith, refl, omega arith, refl, omega arith, wrote-nothing _ _ (omega (arith, c .before .before .before .pre .2)))
 
--- src/whole.rt:49:13
 line-at-requires : tie.Need-line-at-requires Inv-loop μ-loop
 line-at-requires c κs = open-accepted _ _ (c .before .before .before .before .before .pre .0) (omega (arith, c .loop-test .taken, c .before .before .before .before .before .pre .1))
 
--- src/whole.rt:50:9
 put-line-requires : tie.Need-put-line-requires Inv-loop μ-loop
 put-line-requires c κs = let a = c .before .before .before .before .before .before .before .args in let i = c .before .before .before .loop .inv in let small = line-small (a .file .now) (c .before .before .before .before .before .before .before .pre .0) (a .deadlines .now) (c .before .before .before .loop .t) (omega (arith, c .before .before .loop-test .taken, c .before .before .before .before .before .before .before .pre .1)) (c .before .line-at .ensures) in (small .0, small .1, omega (arith, i .3, i .4, c .before .before .loop-test .taken, c .before .before .before .before .before .before .before .pre .2))
 
--- src/whole.rt:51:16
 met-by-requires : tie.Need-met-by-requires Inv-loop μ-loop
 met-by-requires c κs = tt
 
--- src/whole.rt:51:9
 add-met : tie.Need-add-met Inv-loop μ-loop
 add-met c = omega (arith, c .before .before .before .before .before .before .before .loop .inv .2, c .met-by .ensures .1, c .before .before .before .before .before .before .loop-test .taken, few-traces _ (c .before .before .before .before .before .before .before .before .before .before .before .pre .0), c .before .before .before .before .before .before .before .before .before .before .before .pre .1)
 
--- src/whole.rt:52:9
 add-t : tie.Need-add-t Inv-loop μ-loop
 add-t c = omega (arith, c .before .before .before .before .before .before .loop-test .taken, few-traces _ (c .before .before .before .before .before .before .before .before .before .before .before .pre .0), c .before .before .before .before .before .before .before .before .before .before .before .pre .1)
 
--- src/whole.rt:48:5
 loop-less : tie.Need-loop-less Inv-loop μ-loop
 loop-less c = omega (arith, c .before .before .before .before .before .before .loop-test .taken)
 
--- src/whole.rt:48:5
 loop-again : tie.Need-loop-again Inv-loop μ-loop
 unfolding linesText metBelow
 loop-again c = let a = c .before .before .before .before .before .before .before .before .before .before .before .args in let file = a .file .now in let deadlines = a .deadlines .now in let t = c .before .before .before .before .before .before .before .loop .t in let i = c .before .before .before .before .before .before .before .loop .inv in let line = c .before .before .before .before .before .line-at .ensures in (omega (arith, c .before .before .before .before .before .before .loop-test .taken), ap₂ (λ (m n : ℕ). m + n) (i .1) (c .met-by .ensures .0 ∙ ap met line) ∙ ap (metBelow file deadlines) (sym (add-one t)), omega (arith, i .2, c .met-by .ensures .1), c .before .before .before .put-line .kept .0 ∙ i .3, omega (arith, i .4, c .before .before .before .put-line .ensures .0), as-text _ _ (ap (linesText file deadlines) (sym (add-one t))) (wrote-then _ _ _ _ (i .5) (as-text _ _ (ap lineText line) (c .before .before .before .put-line .ensures .1))))
 
--- src/whole.rt:41:1
 same-length : tie.Need-same-length Inv-loop μ-loop
 same-length c = c .before .loop .inv .3
 
--- src/whole.rt:41:1
 returns : tie.Need-returns Inv-loop μ-loop
 returns c = let a = c .before .before .before .before .before .args in let i = c .before .loop .inv in let end : c .before .loop .t ≡ a .all = omega (arith, c .loop-test .left, i .0) in (i .1 ∙ ap (metBelow (a .file .now) (a .deadlines .now)) end, i .4 ∙ ap (λ (n : ℕ). a .at + 78 * n) end, as-text _ _ (ap (linesText (a .file .now) (a .deadlines .now)) end) (i .5))
 

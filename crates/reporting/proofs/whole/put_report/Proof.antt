@@ -12,27 +12,21 @@ use Rattle.reporting.proofs.lines.put_last.Reads as put-last-reads
 use Rattle.reporting.proofs.whole.put_lines.Reads as put-lines-reads
 use Rattle.text.proofs.put_text.Reads as put-text-reads
 
--- src/whole.rt:64:9
 slice-aggregate-put-text : tie.Need-slice-aggregate-put-text
 slice-aggregate-put-text c = search needs
 
--- src/whole.rt:61:9
 put-text-requires : tie.Need-put-text-requires
 put-text-requires c κs = search needs
 
--- src/whole.rt:66:9
 put-lines-requires : tie.Need-put-lines-requires
 put-lines-requires c κs = search needs
 
--- src/whole.rt:67:5
 put-last-requires : tie.Need-put-last-requires
 put-last-requires c κs = search needs
 
--- src/whole.rt:57:1
 same-length : tie.Need-same-length
 same-length c = search needs
 
--- src/whole.rt:57:1
 returns : tie.Need-returns
 unfolding reportText headerText column right spaces
 returns c = let a = c .before .before .before .before .before .before .before .before .before .before .before .before .before .before .before .before .args in let file = a .file .now in let deadlines = a .deadlines .now in let count = c .before .before .before .before .before .before .before .before .before .before .before .before .before .before .before .before .pre .1 in wrote-then _ _ _ _ (wrote-then _ _ _ _ (c .before .before .before .before .before .before .before .before .before .before .put-text .ensures) (as-text _ _ (ap (linesText file deadlines) count) (c .before .before .before .before .before .before .put-lines .ensures .2))) (as-text _ _ (ap₂ lastText (c .before .before .before .before .before .before .put-lines .ensures .0 ∙ ap (metBelow file deadlines) count) count) (c .before .before .put-last .ensures))

@@ -15,39 +15,30 @@ use Rattle.little_endian.proofs.half.Reads as half-reads
 use Rattle.reporting.proofs.whole.put_report.Reads as put-report-reads
 use Rattle.reporting.proofs.whole.serve.Reads as serve-reads
 
--- src/whole.rt:83:9
 file-refusal-requires : tie.Need-file-refusal-requires
 file-refusal-requires c κs = search needs
 
--- src/whole.rt:85:9
 returns : tie.Need-returns
 returns c = refused _ _ _ (c .before .file-refusal .ensures) (λ z. omega (arith, c .if1 .taken, z))
 
--- src/whole.rt:91:9
 half-requires : tie.Need-half-requires
 half-requires c κs = search needs
 
--- src/whole.rt:92:9
 serve-requires : tie.Need-serve-requires
 serve-requires c κs = search needs
 
--- src/whole.rt:93:9
 returns-2 : tie.Need-returns-2
 returns-2 c = let a = c .before .before .before .before .before .before .before .before .args in let accepted : fileRefusal (a .file .now) ≡ 0 = omega (arith, c .before .before .before .before .file-refusal .ensures, c .before .before .before .if1 .left) in unserved (a .file .now) (a .deadlines .now) (a .out .now) accepted (c .before .before .half .ensures .0) (sym (c .before .serve .ensures) ∙ not-true _ (c .if2 .taken))
 
--- src/whole.rt:100:9
 returns-3 : tie.Need-returns-3
 returns-3 c = let a = c .before .before .before .before .before .before .before .before .before .args in let accepted : fileRefusal (a .file .now) ≡ 0 = omega (arith, c .before .before .before .before .before .file-refusal .ensures, c .before .before .before .before .if1 .left) in cramped (a .file .now) (a .deadlines .now) (a .out .now) accepted (c .before .before .before .half .ensures .0) (sym (c .before .before .serve .ensures) ∙ not-false _ (c .before .if2 .left)) (omega (arith, c .if3 .taken))
 
--- src/whole.rt:109:17
 put-report-requires : tie.Need-put-report-requires
 put-report-requires c κs = let accepted : fileRefusal (c .before .before .before .before .before .before .before .before .before .before .args .file .now) ≡ 0 = omega (arith, c .before .before .before .before .before .before .file-refusal .ensures, c .before .before .before .before .before .if1 .left) in (accepted, c .before .before .before .before .half .ensures .0, omega (arith, few-traces _ accepted, c .before .before .before .before .half .ensures .0), omega (arith, c .before .if3 .left))
 
--- src/whole.rt:80:1
 same-length : tie.Need-same-length
 same-length c = search needs
 
--- src/whole.rt:80:1
 returns-4 : tie.Need-returns-4
 returns-4 c = let a = c .before .before .before .before .before .before .before .before .before .before .before .before .before .args in let accepted : fileRefusal (a .file .now) ≡ 0 = omega (arith, c .before .before .before .before .before .before .before .before .before .file-refusal .ensures, c .before .before .before .before .before .before .before .before .if1 .left) in reported (a .file .now) (a .deadlines .now) (a .out .now) accepted (c .before .before .before .before .before .before .before .half .ensures .0) (sym (c .before .before .before .before .before .before .serve .ensures) ∙ not-false _ (c .before .before .before .before .before .if2 .left)) (omega (arith, c .before .before .before .before .if3 .left)) (c .before .before .put-report .ensures)
 

@@ -7,7 +7,6 @@ use Rattle.reporting.proofs.whole.serve.Tie as tie
 use Rattle.reporting.proofs.whole.serve.Reads as reads
 use Rattle.reporting.proofs.whole.serve.Lts as lts
 
--- src/whole.rt:71:1
 returns : tie.Need-returns
 unfolding serves _or_
 returns c = search needs

@@ -22,23 +22,19 @@ digits-at t = and 0 digits-kinds.ps (is 0 digits-kinds.ps μ-digits t) digits.Pr
 abbrev digits-below : ℕ → In 0 digits-kinds.ps
 digits-below t = and 0 digits-kinds.ps (falls 0 digits-kinds.ps _<_ μ-digits t) digits.Pre
 
--- src/aligned.rt:14:9
 digits-returns :
     (t : ℕ) → digits-lts.Need-returns (digits-below t, digits.Post) (digits-at t) digits.Post
 digits-returns t c = sym (ap (λ (t : List ℕ). length t) (decimal-one (c .before .args .n) (omega (arith, c .if1 .taken))))
 
--- src/aligned.rt:16:5
 digits-digits-requires :
     (t : ℕ) →
     digits-lts.Need-digits-requires (digits-below t, digits.Post) (digits-at t) digits.Post
 digits-digits-requires t c κs = (omega (arith, c .before .pre, c .if1 .left), tt)
 
--- src/aligned.rt:16:5
 digits-add-result :
     (t : ℕ) → digits-lts.Need-add-result (digits-below t, digits.Post) (digits-at t) digits.Post
 digits-add-result t c = let few = decimal-short (c .before .before .args .n / 10) in omega (arith, c .digits .ensures)
 
--- src/aligned.rt:10:1
 digits-returns-2 :
     (t : ℕ) → digits-lts.Need-returns-2 (digits-below t, digits.Post) (digits-at t) digits.Post
 digits-returns-2 t c = let more = decimal-grows (c .before .before .args .n) (omega arith) (omega (arith, c .before .if1 .left)) in omega (arith, c .digits .ensures)

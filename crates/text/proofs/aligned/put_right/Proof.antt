@@ -11,23 +11,18 @@ use Rattle.text.proofs.aligned.digits.Reads as digits-reads
 use Rattle.text.proofs.aligned.put_padding.Reads as put-padding-reads
 use Rattle.text.proofs.put.put_decimal.Reads as put-decimal-reads
 
--- src/aligned.rt:37:37
 digits-requires : tie.Need-digits-requires
 digits-requires c κs = search needs
 
--- src/aligned.rt:37:9
 put-padding-requires : tie.Need-put-padding-requires
 put-padding-requires c κs = search needs
 
--- src/aligned.rt:38:5
 put-decimal-requires : tie.Need-put-decimal-requires
 put-decimal-requires c κs = let l = length-spaces (c .before .before .before .before .before .before .before .args .width - c .before .before .before .before .digits .result) in omega (arith, c .before .before .before .before .before .before .before .pre .0, c .before .before .before .before .before .before .before .pre .1, c .before .before .before .before .digits .ensures, c .before .before .before .put-padding .ensures .0, c .before .before .before .put-padding .kept .0)
 
--- src/aligned.rt:33:1
 same-length : tie.Need-same-length
 same-length c = search needs
 
--- src/aligned.rt:33:1
 returns : tie.Need-returns
 returns c = let a = c .before .before .before .before .before .before .before .before .before .before .args in wrote-right (a .at) (a .width) _ _ (a .out .now) (c .before .before .before .before .before .before .before .digits .ensures) (c .before .before .before .before .before .before .put-padding .ensures) (c .before .before .put-decimal .ensures)
 

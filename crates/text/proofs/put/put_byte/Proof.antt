@@ -10,19 +10,15 @@ use Rattle.text.proofs.put.put_byte.Tie as tie
 use Rattle.text.proofs.put.put_byte.Reads as reads
 use Rattle.text.proofs.put.put_byte.Lts as lts
 
--- src/put.rt:12:5
 slice-write-out : tie.Need-slice-write-out
 slice-write-out c = search needs
 
--- src/put.rt:13:5
 add-result : tie.Need-add-result
 add-result c = search needs
 
--- src/put.rt:8:1
 same-length : tie.Need-same-length
 same-length c = search needs
 
--- src/put.rt:8:1
 returns : tie.Need-returns
 unfolding put
 returns c = let a = c .args in (refl, sets-eq (a .b ∷ []) (a .out .now) (a .at) (omega (arith, c .pre)), omega (arith, c .pre))

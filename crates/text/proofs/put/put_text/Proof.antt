@@ -9,31 +9,24 @@ use Rattle.text.proofs.put.put_text.Reads as reads
 use Rattle.text.proofs.put.put_text.Lts as lts
 use Rattle.bytes.proofs.copy.Reads as copy-reads
 
--- src/put.rt:20:23
 sub-copy : tie.Need-sub-copy
 sub-copy c = search needs
 
--- src/put.rt:20:23
 part-copy-start : tie.Need-part-copy-start
 part-copy-start c = search needs
 
--- src/put.rt:20:23
 part-copy-end : tie.Need-part-copy-end
 part-copy-end c = search needs
 
--- src/put.rt:20:5
 copy-requires : tie.Need-copy-requires
 copy-requires c κs = search needs
 
--- src/put.rt:21:5
 add-result : tie.Need-add-result
 add-result c = search needs
 
--- src/put.rt:16:1
 same-length : tie.Need-same-length
 same-length c = search needs
 
--- src/put.rt:16:1
 returns : tie.Need-returns
 unfolding put
 returns c = (refl, put-part _ _ _ _ (c .before .before .before .before .before .before .pre) (c .before .before .copy .ensures .1), c .before .before .before .before .before .before .pre)

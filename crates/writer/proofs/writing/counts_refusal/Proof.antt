@@ -22,40 +22,31 @@ Inv-loop counts t₀ t = (t ≤ length counts) × (none (λ k. ltb maxCount (cou
 abbrev μ-loop : tie.MeasureT-loop
 μ-loop counts t₀ t = length counts - t
 
--- src/writing.rt:49:5
 loop-holds : tie.Need-loop-holds Inv-loop μ-loop
 loop-holds c = (omega arith, none-zero _)
 
--- src/writing.rt:50:17
 mul-wide : tie.Need-mul-wide Inv-loop μ-loop
 mul-wide c = search needs
 
--- src/writing.rt:50:17
 shared-slice-read-wide : tie.Need-shared-slice-read-wide Inv-loop μ-loop
 shared-slice-read-wide c = search needs
 
--- src/writing.rt:50:12
 wide-requires : tie.Need-wide-requires Inv-loop μ-loop
 wide-requires c κs = search needs
 
--- src/writing.rt:51:13
 returns : tie.Need-returns Inv-loop μ-loop
 unfolding countsRefusal
 returns c = scan-refused _ _ (c .before .before .before .before .loop .t) _ (c .before .before .before .loop-test .taken) (lt-ltb _ _ (rw (c .before .wide .ensures .0) at (c .if1 .taken)))
 
--- src/writing.rt:53:9
 add-t : tie.Need-add-t Inv-loop μ-loop
 add-t c = omega arith
 
--- src/writing.rt:49:5
 loop-less : tie.Need-loop-less Inv-loop μ-loop
 loop-less c = omega arith
 
--- src/writing.rt:49:5
 loop-again : tie.Need-loop-again Inv-loop μ-loop
 loop-again c = (omega arith, none-more _ _ (c .before .before .before .before .loop .inv .1) (le-ltb _ _ (rw (c .before .wide .ensures .0) at (c .if1 .left))))
 
--- src/writing.rt:45:1
 returns-2 : tie.Need-returns-2 Inv-loop μ-loop
 unfolding countsRefusal
 returns-2 c = scan-passed _ _ _ _ (c .before .loop .inv .1) (c .loop-test .left) (c .before .loop .inv .0)

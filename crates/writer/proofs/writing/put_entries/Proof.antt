@@ -23,75 +23,57 @@ Inv-loop counts out₀ at₀ offset₀ t₀ out at offset t =
 abbrev μ-loop : tie.MeasureT-loop
 μ-loop counts out₀ at₀ offset₀ t₀ out at offset t = length counts - t
 
--- src/writing.rt:131:18
 cast-at : tie.Need-cast-at Inv-loop μ-loop
 cast-at c = search needs
 
--- src/writing.rt:132:49
 cast-offset : tie.Need-cast-offset Inv-loop μ-loop
 cast-offset c = omega arith
 
--- src/writing.rt:132:36
 mul-offset : tie.Need-mul-offset Inv-loop μ-loop
 mul-offset c = omega arith
 
--- src/writing.rt:132:22
 add-offset : tie.Need-add-offset Inv-loop μ-loop
 add-offset c = omega arith
 
--- src/writing.rt:134:5
 loop-holds : tie.Need-loop-holds Inv-loop μ-loop
 loop-holds c = (omega arith, refl, sym (start-zero _ _), refl, entries-none _ _ (omega arith))
 
--- src/writing.rt:135:22
 mul-wide : tie.Need-mul-wide Inv-loop μ-loop
 mul-wide c = search needs
 
--- src/writing.rt:135:22
 shared-slice-read-wide : tie.Need-shared-slice-read-wide Inv-loop μ-loop
 shared-slice-read-wide c = search needs
 
--- src/writing.rt:135:13
 wide-requires : tie.Need-wide-requires Inv-loop μ-loop
 wide-requires c κs = search needs
 
--- src/writing.rt:136:9
 put-entry-requires : tie.Need-put-entry-requires Inv-loop μ-loop
 put-entry-requires c κs = (omega arith, c .before .wide .ensures .1)
 
--- src/writing.rt:137:15
 cast-at-2 : tie.Need-cast-at-2 Inv-loop μ-loop
 cast-at-2 c = search needs
 
--- src/writing.rt:137:9
 add-at : tie.Need-add-at Inv-loop μ-loop
 add-at c = omega (arith, c .before .before .before .before .before .before .before .before .before .before .pre)
 
--- src/writing.rt:138:19
 mul-offset-2 : tie.Need-mul-offset-2 Inv-loop μ-loop
 mul-offset-2 c = omega arith
 
--- src/writing.rt:138:9
 add-offset-2 : tie.Need-add-offset-2 Inv-loop μ-loop
 add-offset-2 c = let counts = c .before .before .before .before .before .before .before .before .before .before .args .counts .now in let t = c .before .before .before .before .before .before .before .loop .t in let h = start-le (length counts) (count counts) (t + 1) (length counts) (omega arith) in let e = start-more (length counts) (count counts) t in omega (arith, h, e, c .before .before .before .before .wide .ensures .0, c .before .before .before .before .before .before .before .loop .inv .2)
 
--- src/writing.rt:139:9
 add-t : tie.Need-add-t Inv-loop μ-loop
 add-t c = omega arith
 
--- src/writing.rt:134:5
 loop-less : tie.Need-loop-less Inv-loop μ-loop
 loop-less c = omega arith
 
--- src/writing.rt:134:5
 loop-again : tie.Need-loop-again Inv-loop μ-loop
 loop-again c = let counts = c .before .before .before .before .before .before .before .before .before .before .args .counts .now in let o = c .before .before .before .before .before .before .before .before .before .before .args .out .now in let room : 2 ≤ length o = omega (arith, c .before .before .before .before .before .before .before .before .before .before .pre) in (omega arith, omega arith, ap₂ (λ (a b : ℕ). a + 10 * b) (c .before .before .before .before .before .before .before .loop .inv .2) (c .before .before .before .before .wide .ensures .0) ∙ sym (start-more (length counts) (count counts) (c .before .before .before .before .before .before .before .loop .t)), c .before .before .put-entry .kept .0 ∙ c .before .before .before .before .before .before .before .loop .inv .3, entries-more counts o (c .before .before .before .before .before .before .before .loop .out) _ (c .before .before .before .before .before .before .before .loop .t) (c .before .before .before .before .before .before .before .loop .at) _ _ room (c .before .before .before .before .before .before .before .loop .inv .1) (c .before .before .before .before .before .before .before .loop .inv .2) (c .before .before .before .before .wide .ensures .0) (c .before .before .before .before .before .before .before .loop .inv .4) (c .before .before .put-entry .ensures))
 
--- src/writing.rt:127:1
 same-length : tie.Need-same-length Inv-loop μ-loop
 same-length c = c .before .loop .inv .3
 
--- src/writing.rt:127:1
 returns : tie.Need-returns Inv-loop μ-loop
 returns c = let end : c .before .loop .t ≡ length (c .before .before .before .before .args .counts .now) = omega arith in c .before .loop .inv .4 ∙ ap₂ (λ (a b : ℕ). take headerSize (c .before .before .before .before .args .out .now) ++ tableOf (c .before .before .before .before .args .counts .now) a ++ drop b (c .before .before .before .before .args .out .now)) end (c .before .loop .inv .1 ∙ ap entryAt end)
 

@@ -11,27 +11,21 @@ use Rattle.writer.proofs.writing.put_entry.Lts as lts
 use Rattle.writer.proofs.writing.put_half.Reads as put-half-reads
 use Rattle.writer.proofs.writing.put_word.Reads as put-word-reads
 
--- src/writing.rt:122:5
 put-word-requires : tie.Need-put-word-requires
 put-word-requires c κs = search needs
 
--- src/writing.rt:123:24
 cast-put-half : tie.Need-cast-put-half
 cast-put-half c = search needs
 
--- src/writing.rt:123:19
 add-put-half : tie.Need-add-put-half
 add-put-half c = search needs
 
--- src/writing.rt:123:5
 put-half-requires : tie.Need-put-half-requires
 put-half-requires c κs = search needs
 
--- src/writing.rt:118:1
 same-length : tie.Need-same-length
 same-length c = search needs
 
--- src/writing.rt:118:1
 returns : tie.Need-returns
 returns c = let a = c .before .before .before .before .before .before .before .before .before .args in c .before .before .put-half .ensures ∙ put-both (wordBytes (a .offset)) (halfBytes (a .n)) (a .out .now) (a .at) (omega (arith, c .before .before .before .before .before .before .before .before .before .pre .0)) _ (c .before .before .before .before .before .before .put-word .ensures)
 

@@ -10,31 +10,24 @@ use Rattle.writer.proofs.writing.put_half.Tie as tie
 use Rattle.writer.proofs.writing.put_half.Reads as reads
 use Rattle.writer.proofs.writing.put_half.Lts as lts
 
--- src/writing.rt:103:15
 cast-out : tie.Need-cast-out
 cast-out c = search needs
 
--- src/writing.rt:103:5
 slice-write-out : tie.Need-slice-write-out
 slice-write-out c = search needs
 
--- src/writing.rt:104:19
 cast-out-2 : tie.Need-cast-out-2
 cast-out-2 c = search needs
 
--- src/writing.rt:104:9
 add-out : tie.Need-add-out
 add-out c = search needs
 
--- src/writing.rt:104:5
 slice-write-out-2 : tie.Need-slice-write-out-2
 slice-write-out-2 c = simp length-set (omega arith)
 
--- src/writing.rt:99:1
 same-length : tie.Need-same-length
 same-length c = search needs
 
--- src/writing.rt:99:1
 returns : tie.Need-returns
 returns c = let a = c .args in rw (add-one (a .at)) (sets-eq (a .n % 256 ∷ a .n / 256 ∷ []) (a .out .now) (a .at) (c .pre .0))
 

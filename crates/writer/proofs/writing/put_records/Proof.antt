@@ -6,27 +6,21 @@ use Rattle.writer.proofs.writing.put_records.Reads as reads
 use Rattle.writer.proofs.writing.put_records.Lts as lts
 use Rattle.bytes.proofs.copy.Reads as copy-reads
 
--- src/writing.rt:147:26
 sub-copy : tie.Need-sub-copy
 sub-copy c = search needs
 
--- src/writing.rt:147:26
 part-copy-start : tie.Need-part-copy-start
 part-copy-start c = search needs
 
--- src/writing.rt:147:26
 part-copy-end : tie.Need-part-copy-end
 part-copy-end c = search needs
 
--- src/writing.rt:147:5
 copy-requires : tie.Need-copy-requires
 copy-requires c κs = search needs
 
--- src/writing.rt:143:1
 same-length : tie.Need-same-length
 same-length c = search needs
 
--- src/writing.rt:143:1
 returns : tie.Need-returns
 returns c = put-part _ _ _ _ (c .before .before .before .before .before .before .pre) (c .before .before .copy .ensures .1)
 

@@ -10,55 +10,42 @@ use Rattle.writer.proofs.writing.put_word.Tie as tie
 use Rattle.writer.proofs.writing.put_word.Reads as reads
 use Rattle.writer.proofs.writing.put_word.Lts as lts
 
--- src/writing.rt:111:15
 cast-out : tie.Need-cast-out
 cast-out c = search needs
 
--- src/writing.rt:111:5
 slice-write-out : tie.Need-slice-write-out
 slice-write-out c = search needs
 
--- src/writing.rt:112:19
 cast-out-2 : tie.Need-cast-out-2
 cast-out-2 c = search needs
 
--- src/writing.rt:112:9
 add-out : tie.Need-add-out
 add-out c = search needs
 
--- src/writing.rt:112:5
 slice-write-out-2 : tie.Need-slice-write-out-2
 slice-write-out-2 c = simp length-set (omega arith)
 
--- src/writing.rt:113:19
 cast-out-3 : tie.Need-cast-out-3
 cast-out-3 c = search needs
 
--- src/writing.rt:113:9
 add-out-2 : tie.Need-add-out-2
 add-out-2 c = search needs
 
--- src/writing.rt:113:5
 slice-write-out-3 : tie.Need-slice-write-out-3
 slice-write-out-3 c = simp length-set (omega arith)
 
--- src/writing.rt:114:19
 cast-out-4 : tie.Need-cast-out-4
 cast-out-4 c = search needs
 
--- src/writing.rt:114:9
 add-out-3 : tie.Need-add-out-3
 add-out-3 c = search needs
 
--- src/writing.rt:114:5
 slice-write-out-4 : tie.Need-slice-write-out-4
 slice-write-out-4 c = simp length-set (omega arith)
 
--- src/writing.rt:107:1
 same-length : tie.Need-same-length
 same-length c = search needs
 
--- src/writing.rt:107:1
 returns : tie.Need-returns
 returns c = let a = c .args in rw (add-one (a .at), add-two (a .at), add-three (a .at)) (sets-eq (a .n % 256 ∷ a .n / 256 % 256 ∷ a .n / 65536 % 256 ∷ a .n / 16777216 ∷ []) (a .out .now) (a .at) (c .pre))
 

@@ -18,39 +18,30 @@ Inv-loop counts total₀ t₀ total t = (t ≤ length counts) × (total ≡ befo
 abbrev μ-loop : tie.MeasureT-loop
 μ-loop counts total₀ t₀ total t = length counts - t
 
--- src/writing.rt:64:5
 loop-holds : tie.Need-loop-holds Inv-loop μ-loop
 loop-holds c = (omega arith, sym (before-zero _), omega arith)
 
--- src/writing.rt:65:23
 mul-wide : tie.Need-mul-wide Inv-loop μ-loop
 mul-wide c = search needs
 
--- src/writing.rt:65:23
 shared-slice-read-wide : tie.Need-shared-slice-read-wide Inv-loop μ-loop
 shared-slice-read-wide c = search needs
 
--- src/writing.rt:65:18
 wide-requires : tie.Need-wide-requires Inv-loop μ-loop
 wide-requires c κs = search needs
 
--- src/writing.rt:65:9
 add-total : tie.Need-add-total Inv-loop μ-loop
 add-total c = omega arith
 
--- src/writing.rt:66:9
 add-t : tie.Need-add-t Inv-loop μ-loop
 add-t c = omega arith
 
--- src/writing.rt:64:5
 loop-less : tie.Need-loop-less Inv-loop μ-loop
 loop-less c = omega arith
 
--- src/writing.rt:64:5
 loop-again : tie.Need-loop-again Inv-loop μ-loop
 loop-again c = (omega arith, ap₂ (λ (a b : ℕ). a + b) (c .before .before .before .loop .inv .1) (c .wide .ensures .0) ∙ sym (before-more _ _), omega arith)
 
--- src/writing.rt:58:1
 returns : tie.Need-returns Inv-loop μ-loop
 returns c = let end : c .before .loop .t ≡ length (c .before .before .before .args .counts .now) = omega arith in (c .before .loop .inv .1 ∙ ap (before (count (c .before .before .before .args .counts .now))) end, omega (arith, c .before .before .before .pre))
 

@@ -15,64 +15,50 @@ use Rattle.writer.proofs.writing.put_half.Reads as put-half-reads
 use Rattle.writer.proofs.writing.put_records.Reads as put-records-reads
 use Rattle.writer.proofs.writing.write_refusal.Reads as write-refusal-reads
 
--- src/writing.rt:153:9
 write-refusal-requires : tie.Need-write-refusal-requires
 write-refusal-requires c κs = search needs
 
--- src/writing.rt:155:9
 returns : tie.Need-returns
 returns c = write-refused _ _ _ _ (c .before .write-refusal .ensures) (c .if1 .taken)
 
--- src/writing.rt:157:22
 cast-put-half : tie.Need-cast-put-half
 cast-put-half c = let fine = write-fine _ _ _ (sym (c .before .before .write-refusal .ensures) ∙ c .before .if1 .left) in omega (arith, fine .few)
 
--- src/writing.rt:157:5
 put-half-requires : tie.Need-put-half-requires
 unfolding fileLength
 put-half-requires c κs = let fine = write-fine _ _ _ (sym (c .before .before .write-refusal .ensures) ∙ c .before .if1 .left) in omega (arith, fine .few, fine .fits)
 
--- src/writing.rt:158:5
 put-entries-requires : tie.Need-put-entries-requires
 unfolding fileLength
 put-entries-requires c κs = let fine = write-fine _ _ _ (sym (c .before .before .before .before .before .before .write-refusal .ensures) ∙ c .before .before .before .before .before .if1 .left) in let end = last-end (c .before .before .before .before .before .before .before .before .before .before .args .counts .now) (c .before .before .before .before .before .before .before .before .before .before .args .records .now) (fine .sized) in (fine .few, omega (arith, fine .fits, c .before .before .before .put-half .kept .0), omega (arith, fine .short, end))
 
--- src/writing.rt:159:15
 cast-end : tie.Need-cast-end
 cast-end c = search needs
 
--- src/writing.rt:159:38
 cast-end-2 : tie.Need-cast-end-2
 cast-end-2 c = search needs
 
--- src/writing.rt:159:38
 mul-end : tie.Need-mul-end
 mul-end c = let fine = write-fine _ _ _ (sym (c .before .before .before .before .before .before .before .before .before .write-refusal .ensures) ∙ c .before .before .before .before .before .before .before .before .if1 .left) in omega (arith, fine .few)
 
--- src/writing.rt:159:15
 add-end : tie.Need-add-end
 add-end c = let fine = write-fine _ _ _ (sym (c .before .before .before .before .before .before .before .before .before .write-refusal .ensures) ∙ c .before .before .before .before .before .before .before .before .if1 .left) in omega (arith, fine .few)
 
--- src/writing.rt:160:5
 put-records-requires : tie.Need-put-records-requires
 unfolding fileLength
 put-records-requires c κs = let fine = write-fine _ _ _ (sym (c .before .before .before .before .before .before .before .before .before .before .write-refusal .ensures) ∙ c .before .before .before .before .before .before .before .before .before .if1 .left) in omega (arith, fine .fits, c .before .before .before .before .before .before .before .put-half .kept .0, c .before .before .before .put-entries .kept .1 .0)
 
--- src/writing.rt:163:18
 add-t6 : tie.Need-add-t6
 unfolding fileLength
 add-t6 c = let fine = write-fine _ _ _ (sym (c .before .before .before .before .before .before .before .before .before .before .before .before .before .write-refusal .ensures) ∙ c .before .before .before .before .before .before .before .before .before .before .before .before .if1 .left) in omega (arith, fine .short)
 
--- src/writing.rt:163:17
 cast-t11 : tie.Need-cast-t11
 unfolding fileLength
 cast-t11 c = let fine = write-fine _ _ _ (sym (c .before .before .before .before .before .before .before .before .before .before .before .before .before .write-refusal .ensures) ∙ c .before .before .before .before .before .before .before .before .before .before .before .before .if1 .left) in omega (arith, fine .short)
 
--- src/writing.rt:150:1
 same-length : tie.Need-same-length
 same-length c = search needs
 
--- src/writing.rt:150:1
 returns-2 : tie.Need-returns-2
 returns-2 c = write-done _ _ _ _ _ _ (sym (c .before .before .before .before .before .before .before .before .before .before .before .before .before .write-refusal .ensures) ∙ c .before .before .before .before .before .before .before .before .before .before .before .before .if1 .left) (c .before .before .before .before .before .before .before .before .before .before .put-half .ensures) (c .before .before .before .before .before .before .put-entries .ensures) (c .before .before .put-records .ensures)
 

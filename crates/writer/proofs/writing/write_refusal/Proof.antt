@@ -12,85 +12,66 @@ use Rattle.writer.proofs.writing.counts_refusal.Reads as counts-refusal
 use Rattle.writer.proofs.writing.sum_of.Reads as sum-of-reads
 use Rattle.record.proofs.record_refusal.Reads as record-refusal-reads
 
--- src/writing.rt:75:23
 cast-if1 : tie.Need-cast-if1
 cast-if1 c = search needs
 
--- src/writing.rt:76:9
 returns : tie.Need-returns
 unfolding writeRefusal
 returns c = fails _ _ (lt-leb _ _ (c .if1 .taken))
 
--- src/writing.rt:78:9
 counts-refusal-requires : tie.Need-counts-refusal-requires
 counts-refusal-requires c κs = search needs
 
--- src/writing.rt:80:9
 returns-2 : tie.Need-returns-2
 unfolding writeRefusal
 returns-2 c = passes _ (le-leb _ _ (c .before .before .if1 .left)) (stop _ (c .before .counts-refusal .ensures) (c .if2 .taken))
 
--- src/writing.rt:82:39
 sum-of-requires : tie.Need-sum-of-requires
 sum-of-requires c κs = search needs
 
--- src/writing.rt:82:39
 cast-if3 : tie.Need-cast-if3
 cast-if3 c = search needs
 
--- src/writing.rt:82:25
 mul-if3 : tie.Need-mul-if3
 mul-if3 c = search needs
 
--- src/writing.rt:83:9
 returns-3 : tie.Need-returns-3
 unfolding writeRefusal
 returns-3 c = passes _ (le-leb _ _ (c .before .before .before .before .if1 .left)) (go-on (c .before .before .before .counts-refusal .ensures) (c .before .before .if2 .left) (fails _ _ (ne-eqb _ _ (λ e. c .if3 .taken (e ∙ ap (λ (n : ℕ). 10 * n) (sym (c .before .sum-of .ensures .0)))))))
 
--- src/writing.rt:85:15
 cast-end : tie.Need-cast-end
 cast-end c = search needs
 
--- src/writing.rt:85:38
 cast-end-2 : tie.Need-cast-end-2
 cast-end-2 c = search needs
 
--- src/writing.rt:85:38
 mul-end : tie.Need-mul-end
 mul-end c = search needs
 
--- src/writing.rt:85:15
 add-end : tie.Need-add-end
 add-end c = search needs
 
--- src/writing.rt:85:15
 add-end-2 : tie.Need-add-end-2
 add-end-2 c = search needs
 
--- src/writing.rt:86:14
 cast-if4 : tie.Need-cast-if4
 cast-if4 c = search needs
 
--- src/writing.rt:87:9
 returns-4 : tie.Need-returns-4
 unfolding writeRefusal fileLength
 returns-4 c = passes _ (le-leb _ _ (c .before .before .before .before .before .if1 .left)) (go-on (c .before .before .before .before .counts-refusal .ensures) (c .before .before .before .if2 .left) (passes _ (eq-eqb _ _ (c .before .if3 .left ∙ ap (λ (n : ℕ). 10 * n) (c .before .before .sum-of .ensures .0))) (fails _ _ (lt-leb _ _ (c .if4 .taken)))))
 
--- src/writing.rt:89:9
 record-refusal-requires : tie.Need-record-refusal-requires
 record-refusal-requires c κs = search needs
 
--- src/writing.rt:91:9
 returns-5 : tie.Need-returns-5
 unfolding writeRefusal fileLength
 returns-5 c = passes _ (le-leb _ _ (c .before .before .before .before .before .before .before .if1 .left)) (go-on (c .before .before .before .before .before .before .counts-refusal .ensures) (c .before .before .before .before .before .if2 .left) (passes _ (eq-eqb _ _ (c .before .before .before .if3 .left ∙ ap (λ (n : ℕ). 10 * n) (c .before .before .before .before .sum-of .ensures .0))) (passes _ (le-leb _ _ (c .before .before .if4 .left)) (stop _ (c .before .record-refusal .ensures) (c .if5 .taken)))))
 
--- src/writing.rt:94:9
 returns-6 : tie.Need-returns-6
 unfolding writeRefusal fileLength
 returns-6 c = passes _ (le-leb _ _ (c .before .before .before .before .before .before .before .before .if1 .left)) (go-on (c .before .before .before .before .before .before .before .counts-refusal .ensures) (c .before .before .before .before .before .before .if2 .left) (passes _ (eq-eqb _ _ (c .before .before .before .before .if3 .left ∙ ap (λ (n : ℕ). 10 * n) (c .before .before .before .before .before .sum-of .ensures .0))) (passes _ (le-leb _ _ (c .before .before .before .if4 .left)) (go-on (c .before .before .record-refusal .ensures) (c .before .if5 .left) (last-fails _ (lt-leb _ _ (c .if6 .taken)))))))
 
--- src/writing.rt:72:1
 returns-7 : tie.Need-returns-7
 unfolding writeRefusal fileLength
 returns-7 c = passes _ (le-leb _ _ (c .before .before .before .before .before .before .before .before .if1 .left)) (go-on (c .before .before .before .before .before .before .before .counts-refusal .ensures) (c .before .before .before .before .before .before .if2 .left) (passes _ (eq-eqb _ _ (c .before .before .before .before .if3 .left ∙ ap (λ (n : ℕ). 10 * n) (c .before .before .before .before .before .sum-of .ensures .0))) (passes _ (le-leb _ _ (c .before .before .before .if4 .left)) (go-on (c .before .before .record-refusal .ensures) (c .before .if5 .left) (last-passes _ (le-leb _ _ (c .if6 .left)))))))
