@@ -1,33 +1,60 @@
 -- How wide the columns and the lines are, the margin's text by cases, and where a text of a known width ends.
-use Prim.Native.Nat.{ℕ, _+_, _-_, _≤_, _<_}
+use Prim.Native.Nat.{ℕ, zero, suc, _+_, _-_, _≤_, _<_}
 use mathlib.Core.List.{List, [], _∷_, _++_}
-use mathlib.Core.Path.{_≡_, refl, ap, _∙_}
+use mathlib.Core.Path.{_≡_, refl, sym, ap, _∙_}
 use native.Mathlib.Omega.{arith}
-use borrow.Author.Tests.{eq-eqb, ne-eqb, lt-ltb, le-ltb}
+use borrow.Author.Tests.{lt-ltb, le-ltb}
 use lib.ListN.{length, length-append}
+use lib.IntN.{pos, negsuc, _-ℤ_}
 use Rattle.machine.proofs.Numbers.{Tri, less, equal, more, tri}
 use Rattle.text.specs.Text.{newline, Wrote, decimal, spaces, right}
 use Rattle.text.proofs.Pieces.{tens, decimal-one, decimal-few, decimal-short}
 use Rattle.text.proofs.Right.{length-spaces, length-right}
-use Rattle.reporting.specs.Report.{marginText, column, lineText, lineBytes}
+use Rattle.reporting.specs.Report.{signedText, marginText, column, lineText, lineBytes}
 use Rattle.reporting.specs.declared.figures.Line.{Line}
 
 -- a text of a known width ends there
 pub ends : (at width : ℕ) (text before : List ℕ) {afterwards : List ℕ} {end : ℕ} → length text ≡ width → Wrote at text before afterwards end → (end ≡ at + width) × Wrote at text before afterwards end
 ends at width text before e wrote = (wrote .0 ∙ ap (λ (n : ℕ). at + n) e, wrote)
 
+-- the difference of two numbers, by their order
+minus-over : (a b : ℕ) → b ≤ a → pos a -ℤ pos b ≡ pos (a - b)
+minus-over a zero h = ap pos (omega arith)
+minus-over a (suc b) h = rw (le-ltb a (suc b) h)
+
+minus-under : (a b : ℕ) → a < b → pos a -ℤ pos b ≡ negsuc (b - suc a)
+minus-under a zero h = absurd (omega arith)
+minus-under a (suc b) h = rw (lt-ltb a (suc b) h)
+
+signed-over : (n : ℕ) → 0 < n → signedText (pos n) ≡ 43 ∷ decimal n
+unfolding signedText
+signed-over zero h = absurd (omega arith)
+signed-over (suc n) h = refl
+
+signed-under : (n : ℕ) → signedText (negsuc n) ≡ 45 ∷ decimal (suc n)
+unfolding signedText
+signed-under n = refl
+
+signed-none : signedText (pos 0) ≡ decimal 0
+unfolding signedText
+signed-none = sym (decimal-one 0 (omega arith))
+
 module _ (deadline worst : ℕ) where
   pub margin-none : deadline ≡ worst → decimal 0 ≡ marginText deadline worst
   unfolding marginText
-  margin-none e = rw (eq-eqb _ _ e) (decimal-one 0 (omega arith))
+  margin-none e = sym (ap signedText (minus-over deadline worst (omega arith)) ∙ ap (λ (n : ℕ). signedText (pos n)) (omega arith) ∙ signed-none)
 
   pub margin-over : worst < deadline → 43 ∷ decimal (deadline - worst) ≡ marginText deadline worst
   unfolding marginText
-  margin-over h = rw (ne-eqb deadline worst (λ e. omega arith), lt-ltb _ _ h)
+  margin-over h = sym (ap signedText (minus-over deadline worst (omega arith)) ∙ signed-over (deadline - worst) (omega arith))
 
   pub margin-under : deadline < worst → 45 ∷ decimal (worst - deadline) ≡ marginText deadline worst
   unfolding marginText
-  margin-under h = rw (ne-eqb deadline worst (λ e. omega arith), le-ltb worst deadline (omega arith))
+  margin-under h =
+      sym
+      (ap signedText (minus-under deadline worst h)
+      ∙ signed-under (worst - suc deadline)
+      ∙ ap (λ (n : ℕ). 45 ∷ decimal n) (omega arith))
 
   margin-by : Tri deadline worst → length (marginText deadline worst) ≤ 11
   margin-by (less h) = let digits = decimal-short (worst - deadline) in rw (← margin-under h) (omega arith)

@@ -1,11 +1,12 @@
 -- The report of a job file against deadlines, as text: "prints a line for each trace: its number, instructions, unknown flags, best, worst,
 -- deadline, and the margin with its sign, `+`, `-` or `0`, first on the line and aligned, since that is the figure people look for; last a line that
 -- says how many deadlines are met. Columns stay aligned for the largest values."
-use Prim.Native.Nat.{ℕ, zero, suc, _+_, _-_}
+use Prim.Native.Nat.{ℕ, zero, suc, _+_}
 use mathlib.Core.Bool.{Bool, cond}
 use mathlib.Core.List.{List, [], _∷_, _++_}
-use lib.Dec.{ltb, leb, eqb}
+use lib.Dec.{leb, eqb}
 use lib.ListN.{length, getD}
+use lib.IntN.{ℤ, pos, negsuc, _-ℤ_}
 use Rattle.machine.specs.Test.{_and_, _or_}
 use Rattle.machine.specs.Instruction.{Flag, hit, miss, unknown, Trace}
 use Rattle.machine.specs.Time.{best, worst}
@@ -38,12 +39,15 @@ lineOf number trace deadline =
       deadline = deadline;
     }
 
--- "the margin with its sign, `+`, `-` or `0`": deadline minus worst
+-- "with its sign, `+`, `-` or `0`"
+unfoldable pub signedText : ℤ → List ℕ
+signedText (pos zero) = 48 ∷ []
+signedText (pos (suc n)) = 43 ∷ decimal (suc n)
+signedText (negsuc n) = 45 ∷ decimal (suc n)
+
+-- "the margin", as Margin gives it: deadline minus worst
 unfoldable pub marginText : ℕ → ℕ → List ℕ
-marginText deadline worst =
-    cond (eqb deadline worst)
-    (48 ∷ [])
-    (cond (ltb worst deadline) (43 ∷ decimal (deadline - worst)) (45 ∷ decimal (worst - deadline)))
+marginText deadline worst = signedText (pos deadline -ℤ pos worst)
 
 -- a column after the first
 unfoldable pub column : ℕ → List ℕ → List ℕ
