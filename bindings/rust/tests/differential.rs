@@ -3,20 +3,12 @@
 mod simulator;
 
 use sic::State;
+use simulator::dice::Dice;
 use simulator::*;
 use std::sync::atomic::{AtomicU64, Ordering};
 use std::time::{Duration, Instant, SystemTime, UNIX_EPOCH};
 
-struct Dice(u64);
-
 impl Dice {
-    fn below(&mut self, n: u64) -> u64 {
-        self.0 ^= self.0 << 13;
-        self.0 ^= self.0 >> 7;
-        self.0 ^= self.0 << 17;
-        (self.0 >> 11) % n
-    }
-
     fn latency(&mut self) -> u16 {
         1 + self.below(6) as u16
     }

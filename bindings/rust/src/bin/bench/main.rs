@@ -1,5 +1,7 @@
 //! What each call costs beside the same algorithm in Rust and beside a simulator in Rust that goes cycle after cycle, all in one run.
 mod clock;
+#[path = "../../../tests/simulator/dice.rs"]
+mod dice;
 mod mca;
 mod natural;
 mod traces;

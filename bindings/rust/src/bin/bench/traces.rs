@@ -1,15 +1,5 @@
 //! The bodies that are timed.
-
-struct Dice(u64);
-
-impl Dice {
-    fn below(&mut self, n: u64) -> u64 {
-        self.0 ^= self.0 << 13;
-        self.0 ^= self.0 >> 7;
-        self.0 ^= self.0 << 17;
-        (self.0 >> 11) % n
-    }
-}
+use crate::dice::Dice;
 
 fn record(kind: u64, flags: u64, registers: [u64; 3], execution: u64, fetch: u64, data: u64) -> [u8; 10] {
     let f = (fetch as u16).to_le_bytes();
