@@ -2,6 +2,7 @@ pub mod Alike
 pub mod Accepted
 pub mod Encoding
 pub mod Fits
+pub mod Limits
 pub mod Numbers
 pub mod Refusals
 pub mod RoundTrip

@@ -1,7 +1,8 @@
 // The refusals that every call shares: 10 a wrong length, 8 a record that breaks its rules, 11 an
 // unknown flag.
 ghost use mathlib.Core.Path.{_≡_};
-ghost use Prim.Native.Nat.{_+_, _≤_};
+ghost use mathlib.Core.Bool.{cond};
+ghost use Prim.Native.Nat.{_+_, _/_, _%_, _≤_};
 ghost use lib.ListN.{length};
 ghost use Rattle.little_endian.specs.Numbers.{byte};
 ghost use Rattle.record.specs.Layout.{recordSize, flagsAt, fieldsFrom};
@@ -26,30 +27,33 @@ use machine::State;
 // The most records that a body holds.
 const MAX_RECORDS: usize = State::MAX_INSTRUCTIONS as usize;
 
-// Whether a record breaks its rules. The faults are joined and tested once.
+fn limit(test: bool, yes: u32, no: u32) -> u32
+    ensures { λ r. ⌜ r ≡ cond test yes no ⌝ }
+{
+    if test {
+        return yes;
+    }
+    no
+}
+
+// Whether a record breaks its rules. Loads and stores alone have data bits and a data latency,
+// stores and branches no target, so limits follow from the kind: two flags of at most 2 make a byte
+// of at most 10, and a fetch flag alone one of at most 2. Every call tests every record, so the
+// tests are few, and joined before one is looked at.
 fn breaks_rules(f: Fields, flags: u32) -> bool
+    requires { ⌜ (f .fetch ≡ flags % 4) × (f .access ≡ flags / 4 % 4) ⌝ }
     ensures { λ r. ⌜ r ≡ breaksRules f flags ⌝ }
 {
-    let plain = f.kind == 0;
-    let load = f.kind == 1;
-    let store = f.kind == 2;
-    let branch = f.kind == 3;
-    let no_access = plain | branch;
-    let bad_kind = f.kind > 3;
-    let bad_flags = (f.fetch == 3) | (f.access == 3) | (flags > 15);
-    let stray_access = no_access & (f.access != 0);
-    let bad_register = (f.source1 > 31) | (f.source2 > 31) | (f.target > 31);
-    let stray_target = (store | branch) & (f.target != 0);
-    let bad_fetch_latency = f.fetch_latency == 0;
-    let bad_data_latency = ((load | store) & (f.data_latency == 0))
-        | (no_access & (f.data_latency != 0));
-    bad_kind
-        | bad_flags
-        | stray_access
-        | bad_register
-        | stray_target
-        | bad_fetch_latency
-        | bad_data_latency
+    let kind = f.kind;
+    let memory = (kind == 1) | (kind == 2);
+    (kind > 3)
+        | (flags > limit(memory, 10, 2))
+        | (f.fetch == 3)
+        | (f.source1 > 31)
+        | (f.source2 > 31)
+        | (f.target > limit(kind > 1, 0, 31))
+        | (f.fetch_latency == 0)
+        | (memory == (f.data_latency == 0))
 }
 
 fn breaks_from(bytes: &[u8], at: usize) -> bool
