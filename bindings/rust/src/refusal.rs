@@ -78,6 +78,7 @@ impl fmt::Display for Refusal {
 impl std::error::Error for Refusal {}
 
 /// The answer, or the refusal that the number names.
+#[inline]
 pub(crate) fn answer<T>(number: u32, value: T) -> Result<T, Refusal> {
     match number {
         0 => Ok(value),

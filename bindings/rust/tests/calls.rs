@@ -70,6 +70,7 @@ fn refusals_of_bodies() {
         assert_eq!(number(sic::finish(body)), settled);
         assert_eq!(number(sic::run(body, 7)), settled);
         assert_eq!(number(sic::step(body, state)), settled);
+        assert_eq!(by_value::step(body, state).0, settled);
         assert_eq!(number(state.advance(body)), settled);
         assert_eq!(number(sic::alike(body, &good)), settled);
         assert_eq!(number(sic::alike(&good, body)), settled);
@@ -86,6 +87,7 @@ fn a_refused_step_keeps_the_state() {
     assert_eq!(state.advance(&body), Err(Refusal::NotOrderly));
     assert_eq!(state, before);
     assert_eq!(number(sic::step(&body, state)), 12);
+    assert_eq!(by_value::step(&body, state), (12, before));
 }
 
 #[test]

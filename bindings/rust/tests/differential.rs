@@ -106,6 +106,7 @@ fn steps_agree(dice: &mut Dice, trace: &[Instruction]) {
     };
     assert_eq!(sic::step(&body, state), expected);
     let kept = expected.unwrap_or(state);
+    assert_eq!(by_value::step(&body, state), (expected.err().map_or(0, |r| r.number()), kept));
     assert_eq!(state.advance(&body), expected.map(|_| ()));
     assert_eq!(state, kept);
 }
@@ -141,6 +142,7 @@ fn refusals_agree(body: &[u8], other: &[u8]) {
     assert_eq!(sic::best_worst(body).err(), number(body_refusal(body)));
     assert_eq!(sic::finish(body).err(), number(settled));
     assert_eq!(sic::step(body, State::start()).err(), number(settled));
+    assert_eq!(by_value::step(body, State::start()).0, settled);
     assert_eq!(sic::alike(body, other).err(), number(first));
 }
 

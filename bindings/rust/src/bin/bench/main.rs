@@ -12,6 +12,9 @@ use std::hint::black_box;
 const N: usize = sic::MAX_INSTRUCTIONS;
 /// Step checks its whole body in each cycle, so that a few cycles of a long trace tell its cost.
 const STEPS: u32 = 16;
+/// A short trace, and how many of them are run, so that no processor learns one by heart.
+const SHORT: usize = 12;
+const SHORT_TRACES: usize = 1000;
 
 fn line(call: &str, trace: &str, (ours, rust): (f64, f64), cycles: Option<f64>) {
     let simulator = cycles.map_or("".into(), |t| format!("{:.0}", t / ours));
@@ -24,7 +27,7 @@ fn number<T>(answer: Result<T, sic::Refusal>) -> Result<T, u32> {
 
 fn checks(trace: &str, body: &[u8]) {
     let mut file = vec![0; sic::MAX_FILE_BYTES];
-    let length = sic::write(&[N as u16], body, &mut file).unwrap();
+    let length = sic::write(&[(body.len() / sic::RECORD_SIZE) as u16], body, &mut file).unwrap();
     let file = &file[..length];
     let open = race(|| number(sic::open(black_box(file), 0)), || natural::open(black_box(file), 0));
     line("Open", trace, open, None);
@@ -60,6 +63,38 @@ fn steps(trace: &str, body: &[u8], cycles: u32) {
     line("Step, a cycle", trace, (a / cycles as f64, b / cycles as f64), None);
 }
 
+/// How many cycles all the traces take together, each run from the start to its end by `step`.
+fn to_the_end(bodies: &[&[u8]], step: impl Fn(&[u8], &mut sic::State)) -> u32 {
+    let mut cycles = 0;
+    for &body in bodies {
+        let mut s = sic::State::start();
+        while !natural::all_left(body, &s) {
+            step(black_box(body), &mut s);
+            cycles += 1;
+        }
+    }
+    cycles
+}
+
+/// Short traces from the start to the end, where a cycle is not lost in the body's check.
+fn short_steps(trace: &str, bodies: &[&[u8]]) {
+    let rust = || to_the_end(bodies, |b, s| *s = natural::step(b, s).unwrap());
+    let cycles = rust() as f64;
+    let (a, b) = race(|| to_the_end(bodies, |b, s| *s = sic::step(b, *s).unwrap()), rust);
+    line("Step, a cycle", trace, (a / cycles, b / cycles), None);
+    let (a, b) = race(|| to_the_end(bodies, |b, s| s.advance(b).unwrap()), rust);
+    line("Step in place, a cycle", trace, (a / cycles, b / cycles), None);
+}
+
+fn short(trace: &str) {
+    let known = traces::random(SHORT * SHORT_TRACES, 8, 2);
+    let bodies: Vec<&[u8]> = known.chunks_exact(SHORT * sic::RECORD_SIZE).collect();
+    checks(trace, bodies[0]);
+    ends(trace, bodies[0]);
+    bounds(trace, &traces::random(SHORT, 8, 3));
+    short_steps(trace, &bodies);
+}
+
 fn calls(trace: &str, known: &[u8], any: &[u8]) {
     checks(trace, known);
     ends(trace, known);
@@ -76,12 +111,12 @@ fn growth(what: &str, body: &[u8]) {
 }
 
 fn main() {
-    println!("| call | trace of {N} | time | of the same in Rust | times faster than cycle after cycle |\n|---|---|---|---|---|");
+    println!("| call | trace of {N}, or as told | time | of the same in Rust | times faster than cycle after cycle |\n|---|---|---|---|---|");
     calls("random, latencies to 8", &traces::random(N, 8, 2), &traces::random(N, 8, 3));
     calls("random, latencies to 5,000", &traces::random(N, 5000, 2), &traces::random(N, 5000, 3));
     calls("plain", &traces::plain(N), &traces::plain(N));
     calls("the longest", &traces::longest(), &traces::longest());
-    steps("12 random", &traces::random(12, 8, 2), 12);
+    short("12 random");
     println!("\n| random trace | Finish, an instruction | Run | Best and worst |\n|---|---|---|---|");
     for n in [16, 64, 256, 1024, 4096] {
         growth(&format!("{n} instructions, latencies to 8"), &traces::random(n, 8, 2));

@@ -70,15 +70,12 @@ impl Instruction {
 fn broken(b: &[u8]) -> bool {
     let i = read(b);
     let memory = (i.kind == LOAD) | (i.kind == STORE);
-    (i.kind > 3)
-        | (b[1] > 15)
+    (i.kind > BRANCH)
+        | (b[1] > if memory { 10 } else { 2 })
         | (i.fetch == 3)
-        | (i.access == 3)
-        | (!memory & (i.access != 0))
         | (i.source1 > 31)
         | (i.source2 > 31)
-        | (i.target > 31)
-        | ((i.kind > LOAD) & (i.target != 0))
+        | (i.target > if i.kind > LOAD { 0 } else { 31 })
         | (i.fetch_latency == 0)
         | (memory == (i.data_latency == 0))
 }
@@ -308,12 +305,16 @@ pub fn step(body: &[u8], s: &State) -> Result<State, u32> {
     }
 }
 
+/// Whether nothing is left to do.
+pub fn all_left(body: &[u8], s: &State) -> bool {
+    s.fetched as usize == body.len() / 10 && slots(s).iter().all(|slot| !slot.filled)
+}
+
 /// Cycle after cycle, nothing checked: the state after at most `limit` cycles, and how many were run.
 pub fn simulate(body: &[u8], limit: u32) -> (State, u32) {
-    let n = (body.len() / 10) as u32;
     let mut s = State::start();
     let mut t = 0;
-    while t < limit && (s.fetched < n || slots(&s).iter().any(|slot| slot.filled)) {
+    while t < limit && !all_left(body, &s) {
         s = cycle(body, &s);
         t += 1;
     }
