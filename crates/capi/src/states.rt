@@ -18,7 +18,7 @@ pub extern "C" fn sic_start() -> State
 pub extern "C" fn sic_step(body: &[u8], s: State) -> Stepped
     ensures { λ r. ⌜ r ≡ stepAnswer (now (body .entry)) s ⌝ }
 {
-    pipeline::step(body, s)
+    inplace::advanced(s, body)
 }
 
 // Step in the caller's own storage: the state is stored, or stays on a refusal.

@@ -118,7 +118,7 @@ digits :
     Digits (a + 2 * b + 4 * c + 8 * d + 16 * e + 32 * f + 64 * g) a b c d e f g
 digits a b c d e f g ha hb hc hd he hf hg = omega arith
 
-mask-bits : (f : Stage → Bool) → f post ≡ false → (k : Stage) → bits (maskOf f) k ≡ f k
+pub mask-bits : (f : Stage → Bool) → f post ≡ false → (k : Stage) → bits (maskOf f) k ≡ f k
 mask-bits f e =
     let d = digits _ _ _ _ _ _ _ (small (f pre)) (small (f IF)) (small (f ID)) (small (f EX)) (small (f MEM)) (small (f ST)) (small (f WB)) in
     eight (λ k. bits (maskOf f) k ≡ f k)
@@ -131,23 +131,13 @@ mask-bits f e =
     (bit-is _ (f WB) (d .at6))
     (bit-is _ (f post) (d .at7 ∙ ap bit (sym e)))
 
-goes-post : (trace : Trace) (s : State) → goes trace s post ≡ false
+pub goes-post : (trace : Trace) (s : State) → goes trace s post ≡ false
 unfolding goes standing
 goes-post trace s = and-failed-l _ _ (and-failed-l _ _ refl)
 
-occupied-post : (trace : Trace) (s : State) → occupied trace s post ≡ false
+pub occupied-post : (trace : Trace) (s : State) → occupied trace s post ≡ false
 unfolding occupied standing
 occupied-post trace s = refl
-
--- who leaves, from the two masks
-pub leaves-by-masks :
-    (trace : Trace) (s : State) (k : Stage) →
-    leaves trace s k ≡ movesAt (bits (maskOf (goes trace s))) (bits (maskOf (occupied trace s))) (storeInMEM trace s) k
-unfolding leaves
-leaves-by-masks trace s k =
-    ap₂ (λ (going full : Stage → Bool). movesAt going full (storeInMEM trace s) k)
-    (sym (fun-ext (mask-bits (goes trace s) (goes-post trace s))))
-    (sym (fun-ext (mask-bits (occupied trace s) (occupied-post trace s))))
 
 -- Pending, by levels: the level that the kind has yet to reach with count 0.
 abbrev pub goalLevel : Kind → ℕ

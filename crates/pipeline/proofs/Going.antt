@@ -8,14 +8,14 @@ use Rattle.machine.specs.Instruction.{Instruction, Trace, instruction}
 use Rattle.machine.specs.Rules.{Stage, pre, IF, ID, EX, MEM, ST, WB}
 use Rattle.machine.specs.declared.Slot.{Slot}
 use Rattle.machine.specs.declared.State.{State}
-use Rattle.machine.proofs.Connectives.{and-failed-r, and-true, or-failed}
+use Rattle.machine.proofs.Connectives.{Value, passed, failed, value, and-failed-l, and-failed-r, and-true, or-failed}
 use Rattle.machine.proofs.Stages.{stageAt}
 use Rattle.machine.proofs.BySlots.{pending, waitsFor, holdsBack, heldBack}
 use Rattle.record.specs.declared.layout.Fields.{Fields}
 use Rattle.record.specs.Rules.{kindOf, instructionOf}
 use Rattle.pipeline.specs.Bits.{bitsOf, pendingSlot}
 use Rattle.pipeline.specs.declared.moving.Bits.{Bits}
-use Rattle.pipeline.proofs.Joined.{either-of}
+use Rattle.pipeline.proofs.Joined.{either-of, and-under}
 
 -- only in pre, ID and EX does an instruction wait for another
 pub waits-elsewhere
@@ -32,11 +32,12 @@ waits-elsewhere (suc (suc (suc (suc (suc (suc (suc n))))))) a b c i j = refl
 
 pub is-pending
     : (trace : Trace) (k : Stage) (held : Slot) (f : Fields) {r : Bool} →
-    instructionOf f ≡ instruction trace (held .index) →
+    (held .filled ≡ true → instructionOf f ≡ instruction trace (held .index)) →
     r ≡ (held .filled and pending (kindOf (f .kind)) (record { stage = k; count = held .count })) →
     r ≡ pendingSlot trace k held
 unfolding instructionOf
-is-pending trace k held f e q = q ∙ ap (λ (j : Instruction). held .filled and pending (j .kind) (record { stage = k; count = held .count })) e
+is-pending trace k held f e q =
+    q ∙ and-under (held .filled) λ t. ap (λ (j : Instruction). pending (j .kind) (record { stage = k; count = held .count })) (e t)
 
 -- a slot holds another back if it is pending, older and waited for
 reorder : (a b c d : Bool) → (a and b and c and d) ≡ (a and c and (b and d))
@@ -49,12 +50,16 @@ reorder false b c d = refl
 pub holds
     : (trace : Trace) (at : Stage) (i : ℕ) (k : Stage) (held : Slot) {pending r : Bool} {this that : Instruction} →
     this ≡ instruction trace i →
-    that ≡ instruction trace (held .index) →
+    (held .filled ≡ true → that ≡ instruction trace (held .index)) →
     pending ≡ pendingSlot trace k held →
     r ≡ (pending and ltb (held .index) i and waitsFor at this that) →
     r ≡ holdsBack trace at i k held
 unfolding holdsBack
-holds trace at i k held e f p q = q ∙ rw (e, f, p) (reorder _ _ _ _)
+holds trace at i k held {pending} {r} {this} {that} e f p q = by (value (held .filled))
+  where
+    by : Value (held .filled) → r ≡ holdsBack trace at i k held
+    by (passed t) = q ∙ rw (e, f t, p) (reorder _ _ _ _)
+    by (failed t) = q ∙ and-failed-l _ _ (and-failed-l _ _ (p ∙ and-failed-l _ _ t)) ∙ sym (and-failed-l _ _ (and-failed-l _ _ t))
 
 -- the six slots' answers joined
 pub held-by

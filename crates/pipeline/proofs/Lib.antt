@@ -4,4 +4,6 @@ pub mod Instructions
 pub mod Entry
 pub mod Going
 pub mod Slots
+pub mod Starts
+pub mod Lengths
 pub mod Answer

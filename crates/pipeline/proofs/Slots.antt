@@ -1,34 +1,33 @@
--- The state after a cycle, from what the code has of it: who moves, by the masks, and then slot by slot.
+-- The state after a cycle, from what the code has of it: slot by slot.
 use Prim.Native.Nat.{ℕ, suc}
-use mathlib.Core.Bool.{Bool, cond}
-use mathlib.Core.Path.{_≡_, sym, ap, fun-ext, _∙_}
+use mathlib.Core.Bool.{Bool, true, false, cond}
+use mathlib.Core.Path.{_≡_, refl, sym, _∙_}
 use Rattle.machine.specs.Instruction.{Trace, instruction}
-use Rattle.machine.specs.Rules.{Stage, pre, IF, ID, EX, MEM, ST, WB, entry}
+use Rattle.machine.specs.Rules.{Stage, pre, IF, ID, EX, MEM, ST, WB, post, same, entry}
 use Rattle.machine.specs.State.{slot}
 use Rattle.machine.specs.declared.Slot.{Slot}
 use Rattle.machine.specs.declared.State.{State}
-use Rattle.machine.proofs.BySlots.{standing, goes, occupied, storeInMEM, movesAt, before, arrives, leaves, slotAfter, newSlot, stepBySlots}
-use Rattle.machine.proofs.Masks.{bits, maskOf, leaves-by-masks}
-use Rattle.pipeline.specs.Bits.{bitsOf}
+use Rattle.machine.proofs.Connectives.{and-l}
+use Rattle.machine.proofs.BySlots.{standing, goes, moves-at, before, arrives, leaves, slotAfter, newSlot, stepBySlots}
 
 module _ (trace : Trace) (s : State) where
-  pub leaving-is
-      : {going full : ℕ} {store : Bool} →
-      going ≡ maskOf (goes trace s) →
-      full ≡ maskOf (occupied trace s) →
-      store ≡ storeInMEM trace s →
-      bitsOf (movesAt (bits going) (bits full) store) ≡ bitsOf (leaves trace s)
-  leaving-is g f t = ap bitsOf (fun-ext (λ k. (λ i. movesAt (bits (g i)) (bits (f i)) (t i) k) ∙ sym (leaves-by-masks trace s k)))
-
   pub slot-is
       : (k : Stage) {r : Slot} {arriving gone : Bool} {count : ℕ} →
       r ≡ slotAfter arriving (standing trace s (before k) .index) count gone (slot s k) →
       arriving ≡ arrives trace s k →
-      count ≡ entry (instruction trace (standing trace s (before k) .index)) k →
+      (arriving ≡ true → count ≡ entry (instruction trace (standing trace s (before k) .index)) k) →
       gone ≡ leaves trace s k →
       r ≡ newSlot trace s k
-  unfolding newSlot
-  slot-is k e a n g = e ∙ (λ i. slotAfter (a i) (standing trace s (before k) .index) (n i) (g i) (slot s k))
+  unfolding newSlot slotAfter
+  slot-is k {arriving = true} e a n g = e ∙ (λ i. slotAfter (a i) (standing trace s (before k) .index) (n refl i) (g i) (slot s k))
+  slot-is k {arriving = false} e a n g =
+      let coming = standing trace s (before k) .index in
+      e ∙ (λ i. slotAfter (a i) coming (entry (instruction trace coming) k) (g i) (slot s k))
+
+  -- who moves stands in a slot
+  pub leaves-filled : (k : Stage) → same k post ≡ false → leaves trace s k ≡ true → standing trace s k .filled ≡ true
+  unfolding leaves goes
+  leaves-filled k n e = and-l _ _ (and-l _ _ (and-l _ _ (sym (moves-at _ _ _ k n) ∙ e)))
 
   pub state-is
       : {fetched : ℕ} {IF′ ID′ EX′ MEM′ ST′ WB′ : Slot} →

@@ -1,12 +1,13 @@
 -- A bit for each stage that an instruction can move out of, as a test of stages gives them.
-use mathlib.Core.Bool.{Bool, false}
-use Rattle.machine.specs.Test.{_and_}
+use mathlib.Core.Bool.{Bool, true, false, not}
+use lib.Dec.{eqb}
+use Rattle.machine.specs.Test.{_and_, _or_}
 use Rattle.machine.specs.Instruction.{Trace, instruction}
 use Rattle.machine.specs.Rules.{Stage, pre, IF, ID, EX, MEM, ST, WB, post}
 use Rattle.machine.specs.State.{slot}
 use Rattle.machine.specs.declared.Slot.{Slot}
 use Rattle.machine.specs.declared.State.{State}
-use Rattle.machine.proofs.BySlots.{pending}
+use Rattle.machine.proofs.BySlots.{pending, goes}
 use Rattle.pipeline.specs.declared.moving.Bits.{Bits}
 
 abbrev pub bitsOf : (Stage → Bool) → Bits
@@ -28,3 +29,22 @@ pendingSlot trace k held = held .filled and pending (instruction trace (held .in
 
 abbrev pub pendingIn : Trace → State → Stage → Bool
 pendingIn trace s k = pendingSlot trace k (slot s k)
+
+-- the slot may be free after the cycle: it is empty, or what it holds has counted down
+abbrev pub opens : Slot → Bool
+opens held = not (held .filled) or eqb (held .count) 0
+
+-- the same of the slot after a stage; nothing is asked of the slots after MEM
+abbrev pub opensAfter : State → Stage → Bool
+opensAfter s pre = opens (s .IF)
+opensAfter s IF = opens (s .ID)
+opensAfter s ID = opens (s .EX)
+opensAfter s EX = opens (s .MEM)
+opensAfter s MEM = true
+opensAfter s ST = true
+opensAfter s WB = true
+opensAfter s post = true
+
+-- who goes, if the slot after may be free
+abbrev pub starts : Trace → State → Stage → Bool
+starts trace s k = goes trace s k and opensAfter s k

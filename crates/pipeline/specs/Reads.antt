@@ -1,17 +1,19 @@
 -- What the step's inner functions go by: the fields of the instruction that stands in each stage, read once a cycle. A promise about them is
 -- one for every trace that has these instructions there.
+use mathlib.Core.Bool.{true}
 use mathlib.Core.Path.{_≡_}
 use Rattle.machine.specs.Instruction.{Trace, instruction}
 use Rattle.machine.specs.declared.State.{State}
 use Rattle.record.specs.Rules.{instructionOf}
 use Rattle.pipeline.specs.declared.reading.Standing.{Standing}
 
--- the fields are those of the trace's instructions that the state names; in pre stands the next to be fetched
+-- the fields are those of the trace's instructions that stand in the slots, an empty one is asked about in MEM alone; in pre stands the next to be
+-- fetched
 pub record Reads (trace : Trace) (s : State) (w : Standing) : Type 0 where
   pub pre : instructionOf (w .pre) ≡ instruction trace (s .fetched)
-  pub IF : instructionOf (w .IF) ≡ instruction trace (s .IF .index)
-  pub ID : instructionOf (w .ID) ≡ instruction trace (s .ID .index)
-  pub EX : instructionOf (w .EX) ≡ instruction trace (s .EX .index)
+  pub IF : s .IF .filled ≡ true → instructionOf (w .IF) ≡ instruction trace (s .IF .index)
+  pub ID : s .ID .filled ≡ true → instructionOf (w .ID) ≡ instruction trace (s .ID .index)
+  pub EX : s .EX .filled ≡ true → instructionOf (w .EX) ≡ instruction trace (s .EX .index)
   pub MEM : instructionOf (w .MEM) ≡ instruction trace (s .MEM .index)
-  pub ST : instructionOf (w .ST) ≡ instruction trace (s .ST .index)
-  pub WB : instructionOf (w .WB) ≡ instruction trace (s .WB .index)
+  pub ST : s .ST .filled ≡ true → instructionOf (w .ST) ≡ instruction trace (s .ST .index)
+  pub WB : s .WB .filled ≡ true → instructionOf (w .WB) ≡ instruction trace (s .WB .index)

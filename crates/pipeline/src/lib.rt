@@ -5,8 +5,7 @@ mod orderly;
 mod reading;
 pub mod refusal;
 pub mod stepping;
-mod worst;
 
 pub use stepping::Stepped;
 pub use stepping::step;
-pub use worst::next_worst;
+pub use stepping::step_as;

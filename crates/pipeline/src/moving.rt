@@ -1,5 +1,6 @@
 // Who moves: "moves" and "will be free" over two masks, a bit for each level from pre 0 to WB 6.
 ghost use mathlib.Core.Path.{_≡_};
+ghost use mathlib.Core.Bool.{not, _||_};
 ghost use Prim.Native.Nat.{_<_, _≤_};
 ghost use Rattle.machine.proofs.Stages.{stageAt};
 ghost use Rattle.machine.proofs.BySlots.{movesAt, freeAt};
@@ -37,6 +38,13 @@ pub(crate) fn mask(b: Bits) -> u32
         + 16 * digit(b.MEM)
         + 32 * digit(b.ST)
         + 64 * digit(b.WB)
+}
+
+// No bit is set.
+pub(crate) fn none(b: Bits) -> bool
+    ensures { λ r. ⌜ r ≡ not (b .pre || b .IF || b .ID || b .EX || b .MEM || b .ST || b .WB) ⌝ }
+{
+    !(b.pre | b.IF | b.ID | b.EX | b.MEM | b.ST | b.WB)
 }
 
 fn bit(mask: u32, level: u32) -> bool

@@ -1,21 +1,26 @@
 // Step: the state one cycle on.
 ghost use mathlib.Core.Path.{_≡_};
-ghost use mathlib.Core.Bool.{cond};
+ghost use mathlib.Core.Bool.{true, not, cond};
 ghost use Prim.Native.Nat.{suc, _≤_};
-ghost use lib.Dec.{eqb};
+ghost use lib.Dec.{ltb, eqb};
 ghost use lib.ListN.{length};
 ghost use Rattle.machine.specs.Test.{_and_};
-ghost use Rattle.machine.specs.Instruction.{Trace};
-ghost use Rattle.machine.proofs.BySlots.{goes, occupied, storeInMEM, leaves, slotAfter, stepBySlots};
-ghost use Rattle.record.specs.Body.{traceOf, bodyRefusal};
+ghost use Rattle.machine.specs.Instruction.{Trace, instruction};
+ghost use Rattle.machine.specs.Rules.{pre};
+ghost use Rattle.machine.proofs.Stages.{stageAt};
+ghost use Rattle.machine.proofs.BySlots.{heldBack, occupied, storeInMEM, leaves, slotAfter, stepBySlots};
+ghost use Rattle.record.specs.Rules.{instructionOf};
+ghost use Rattle.record.specs.Body.{traceOf, lengthRefusal, settledRefusal};
 ghost use Rattle.pipeline.specs.Reads.{Reads};
-ghost use Rattle.pipeline.specs.Bits.{bitsOf};
-ghost use Rattle.pipeline.specs.Step.{stepAnswer};
+ghost use Rattle.pipeline.specs.Bits.{bitsOf, pendingIn, opens, starts};
+ghost use Rattle.pipeline.specs.Standstill.{standstill};
+ghost use Rattle.pipeline.specs.Step.{stepAnswer, stepAs};
 use crate::hazards::held_back;
 use crate::hazards::pending_slots;
 use crate::moving::Bits;
 use crate::moving::leaving;
 use crate::moving::mask;
+use crate::moving::none;
 use crate::orderly::orderly;
 use crate::reading::STORE;
 use crate::reading::Standing;
@@ -24,10 +29,13 @@ use crate::reading::entry_MEM;
 use crate::reading::entry_ST;
 use crate::reading::less_one;
 use crate::reading::read_stages;
+use crate::reading::with_misses;
 use crate::refusal::NOT_ORDERLY;
 use machine::Slot;
 use machine::State;
+use record::Fields;
 use record::layout::RECORD_SIZE;
+use record::length_refusal;
 use record::settled_refusal;
 
 #[repr(C)]
@@ -42,16 +50,52 @@ fn counted_down(held: Slot) -> bool
     held.filled & (held.count == 0)
 }
 
-// Which stages' instructions move if their next stage will be free: count 0 and ready.
+// The slot may be free after the cycle.
+fn opens(held: Slot) -> bool
+    ensures { λ r. ⌜ r ≡ opens held ⌝ }
+{
+    !held.filled | (held.count == 0)
+}
+
+// Whether the instruction in the slot could move into the one after it: only where its count is 0 and
+// that slot may be free is it asked who holds it back.
+fn released(level: u32, held: Slot, after: Slot, i: Fields, p: Bits, s: State, w: Standing) -> bool
+    ensures { λ r. ⌜ ((trace : Trace) →
+        Reads trace s w →
+        p ≡ bitsOf (pendingIn trace s) →
+        (held .filled ≡ true → instructionOf i ≡ instruction trace (held .index)) →
+        r ≡ (held .filled and eqb (held .count) 0 and not (heldBack trace s (stageAt level) (held .index)) and opens after)) ⌝ }
+{
+    if counted_down(held) & opens(after) {
+        return !held_back(level, i, held.index, p, s, w);
+    }
+    false
+}
+
+// The same of the next instruction to be fetched, if there is one.
+fn fetchable(n: u32, p: Bits, s: State, w: Standing) -> bool
+    ensures { λ r. ⌜ ((trace : Trace) →
+        Reads trace s w →
+        p ≡ bitsOf (pendingIn trace s) →
+        r ≡ (ltb (s .fetched) n and not (heldBack trace s pre (s .fetched)) and opens (s .IF))) ⌝ }
+{
+    if (s.fetched < n) & opens(s.IF) {
+        return !held_back(0, w.pre, s.fetched, p, s, w);
+    }
+    false
+}
+
+// Which stages' instructions move if their next stage will be free: count 0 and ready, and, as far as
+// MEM, a next slot that may be free.
 fn going(n: u32, s: State, w: Standing) -> Bits
-    ensures { λ r. ⌜ ((trace : Trace) → Reads trace s w → length trace ≡ n → r ≡ bitsOf (goes trace s)) ⌝ }
+    ensures { λ r. ⌜ ((trace : Trace) → Reads trace s w → length trace ≡ n → r ≡ bitsOf (starts trace s)) ⌝ }
 {
     let p = pending_slots(s, w);
     Bits {
-        pre: (s.fetched < n) & !held_back(0, w.pre, s.fetched, p, s, w),
-        IF: counted_down(s.IF),
-        ID: counted_down(s.ID) & !held_back(2, w.ID, s.ID.index, p, s, w),
-        EX: counted_down(s.EX) & !held_back(3, w.EX, s.EX.index, p, s, w),
+        pre: fetchable(n, p, s, w),
+        IF: counted_down(s.IF) & opens(s.ID),
+        ID: released(2, s.ID, s.EX, w.ID, p, s, w),
+        EX: released(3, s.EX, s.MEM, w.EX, p, s, w),
         MEM: counted_down(s.MEM),
         ST: counted_down(s.ST),
         WB: counted_down(s.WB),
@@ -134,27 +178,59 @@ fn slots_after(s: State, w: Standing, moving: Bits, store: bool) -> State
     }
 }
 
-pub(crate) fn cycle(n: u32, s: State, w: Standing) -> State
+// A cycle in which nobody moves.
+fn all_stay(s: State) -> State
+    ensures { λ r. ⌜ r ≡ standstill s ⌝ }
+{
+    State {
+        fetched: s.fetched,
+        IF: slot_after(false, 0, 0, false, s.IF),
+        ID: slot_after(false, 0, 0, false, s.ID),
+        EX: slot_after(false, 0, 0, false, s.EX),
+        MEM: slot_after(false, 0, 0, false, s.MEM),
+        ST: slot_after(false, 0, 0, false, s.ST),
+        WB: slot_after(false, 0, 0, false, s.WB),
+    }
+}
+
+fn cycle(n: u32, s: State, w: Standing) -> State
     requires { ⌜ s .fetched ≤ 4096 ⌝ }
     ensures { λ r. ⌜ ((trace : Trace) → Reads trace s w → length trace ≡ n → r ≡ stepBySlots trace s) ⌝ }
 {
+    let starting = going(n, s, w);
+    if none(starting) {
+        return all_stay(s);
+    }
     let store = w.MEM.kind == STORE;
-    let moving = leaving(mask(going(n, s, w)), mask(full(n, s)), store);
+    let moving = leaving(mask(starting), mask(full(n, s)), store);
     slots_after(s, w, moving, store)
 }
 
-// How many instructions an accepted body holds.
-pub(crate) fn records(body: &[u8]) -> u32
-    requires { ⌜ bodyRefusal (now body) ≡ 0 ⌝ }
+// How many instructions a body of lawful length holds.
+fn records(body: &[u8]) -> u32
+    requires { ⌜ lengthRefusal (now body) ≡ 0 ⌝ }
     ensures { λ r. ⌜ (length (traceOf (now (body .entry))) ≡ r) × (r ≤ 4096) ⌝ }
 {
     (body.len() / RECORD_SIZE) as u32
 }
 
-pub fn step(body: &[u8], s: State) -> Stepped
-    ensures { λ r. ⌜ r ≡ stepAnswer (now (body .entry)) s ⌝ }
+// The body's own refusal; where its records are known to keep their rules, that of its length.
+fn body_fault(body: &[u8], lawful: bool) -> u32
+    ensures { λ r. ⌜ r ≡ cond lawful (lengthRefusal (now (body .entry))) (settledRefusal (now (body .entry))) ⌝ }
 {
-    let fault = settled_refusal(body);
+    if lawful {
+        return length_refusal(body);
+    }
+    settled_refusal(body)
+}
+
+// One cycle on, unknown flags taken as misses: Step accepts none. Step and a chart's rows go through
+// this one function. In the library for other languages only `inplace::advance_as` calls it, so that
+// a whole cycle is compiled into that.
+pub fn step_as(body: &[u8], s: State, lawful: bool) -> Stepped
+    ensures { λ r. ⌜ r ≡ stepAs lawful (now (body .entry)) s ⌝ }
+{
+    let fault = body_fault(body, lawful);
     if fault != 0 {
         return Stepped {
             refusal: fault,
@@ -162,7 +238,7 @@ pub fn step(body: &[u8], s: State) -> Stepped
         };
     }
     let n = records(body);
-    let w = read_stages(body, s);
+    let w = with_misses(read_stages(body, s));
     if orderly(n, s, w) {
         return Stepped {
             refusal: 0,
@@ -173,4 +249,10 @@ pub fn step(body: &[u8], s: State) -> Stepped
         refusal: NOT_ORDERLY,
         state: s,
     }
+}
+
+pub fn step(body: &[u8], s: State) -> Stepped
+    ensures { λ r. ⌜ r ≡ stepAnswer (now (body .entry)) s ⌝ }
+{
+    step_as(body, s, false)
 }

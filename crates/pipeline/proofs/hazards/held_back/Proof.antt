@@ -34,7 +34,7 @@ returns c =
     (holds trace at (a .index) IF (a .s .IF) ei (h .IF) (ap (λ (b : Bits). b .IF) p) (c .before .before .before .before .before .holds-back .ensures))
     (holds trace at (a .index) ID (a .s .ID) ei (h .ID) (ap (λ (b : Bits). b .ID) p) (c .before .before .before .before .holds-back2 .ensures))
     (holds trace at (a .index) EX (a .s .EX) ei (h .EX) (ap (λ (b : Bits). b .EX) p) (c .before .before .before .holds-back3 .ensures))
-    (holds trace at (a .index) MEM (a .s .MEM) ei (h .MEM) (ap (λ (b : Bits). b .MEM) p) (c .before .before .holds-back4 .ensures))
+    (holds trace at (a .index) MEM (a .s .MEM) ei (λ _. h .MEM) (ap (λ (b : Bits). b .MEM) p) (c .before .before .holds-back4 .ensures))
     (holds trace at (a .index) ST (a .s .ST) ei (h .ST) (ap (λ (b : Bits). b .ST) p) (c .before .holds-back5 .ensures))
     (holds trace at (a .index) WB (a .s .WB) ei (h .WB) (ap (λ (b : Bits). b .WB) p) (c .holds-back6 .ensures))
 

@@ -35,7 +35,7 @@ returns c =
     (is-pending trace IF (a .s .IF) (a .w .IF) (h .IF) (c .before .before .before .before .before .slot-pending .ensures))
     (is-pending trace ID (a .s .ID) (a .w .ID) (h .ID) (c .before .before .before .before .slot-pending2 .ensures))
     (is-pending trace EX (a .s .EX) (a .w .EX) (h .EX) (c .before .before .before .slot-pending3 .ensures))
-    (is-pending trace MEM (a .s .MEM) (a .w .MEM) (h .MEM) (c .before .before .slot-pending4 .ensures))
+    (is-pending trace MEM (a .s .MEM) (a .w .MEM) (λ _. h .MEM) (c .before .before .slot-pending4 .ensures))
     (is-pending trace ST (a .s .ST) (a .w .ST) (h .ST) (c .before .slot-pending5 .ensures))
     (is-pending trace WB (a .s .WB) (a .w .WB) (h .WB) (c .slot-pending6 .ensures))
 

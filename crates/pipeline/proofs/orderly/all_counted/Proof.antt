@@ -1,12 +1,20 @@
 -- `pipeline::orderly::all_counted` meets its contract: each slot's count against its entry count.
-use mathlib.Core.Path.{ap, _∙_}
+use Prim.Native.Nat.{ℕ}
+use mathlib.Core.Bool.{true}
+use mathlib.Core.Path.{_≡_, ap, _∙_}
+use lib.Dec.{leb}
+use Rattle.machine.specs.declared.Slot.{Slot}
 use Rattle.machine.specs.Rules.{IF, EX, MEM, ST, entry}
 use Rattle.record.specs.Rules.{instructionOf}
 use Rattle.pipeline.specs.Orderly.{countOf}
 use Rattle.pipeline.proofs.Entry.{entry-of}
-use Rattle.pipeline.proofs.Joined.{both-of}
+use Rattle.pipeline.proofs.Joined.{both-of, cond-under}
 use Rattle.pipeline.proofs.orderly.all_counted.Statement.{statement}
 use Rattle.pipeline.proofs.orderly.all_counted.Tie as tie
+
+-- an empty slot's entry count is not asked for
+count-under : (held : Slot) {m n : ℕ} → (held .filled ≡ true → m ≡ n) → countOf held m ≡ countOf held n
+count-under held h = cond-under (held .filled) _ λ t. ap (leb (held .count)) (h t)
 
 entry-IF-requires : tie.Need-entry-IF-requires
 entry-IF-requires c κs = tt
@@ -49,11 +57,11 @@ returns c =
     (both-of
     (both-of
     (both-of
-    (c6 .before .counted .ensures ∙ ap (countOf (s .IF)) (c8 .entry-IF .ensures ∙ entry-of IF (h .IF)))
+    (c6 .before .counted .ensures ∙ count-under (s .IF) (λ t. c8 .entry-IF .ensures ∙ entry-of IF (h .IF t)))
     (c6 .counted2 .ensures))
-    (c4 .before .counted3 .ensures ∙ ap (countOf (s .EX)) (entry-of EX (h .EX))))
-    (c2 .before .counted4 .ensures ∙ ap (countOf (s .MEM)) (c4 .entry-MEM .ensures ∙ entry-of MEM (h .MEM))))
-    (c .before .counted5 .ensures ∙ ap (countOf (s .ST)) (c2 .entry-ST .ensures ∙ entry-of ST (h .ST))))
+    (c4 .before .counted3 .ensures ∙ count-under (s .EX) (λ t. entry-of EX (h .EX t))))
+    (c2 .before .counted4 .ensures ∙ count-under (s .MEM) (λ t. c4 .entry-MEM .ensures ∙ entry-of MEM (h .MEM))))
+    (c .before .counted5 .ensures ∙ count-under (s .ST) (λ t. c2 .entry-ST .ensures ∙ entry-of ST (h .ST t))))
     (c .counted6 .ensures)
 
 pub all-counted-spec : {M : Type 1} → statement M

@@ -8,7 +8,7 @@ use Rattle.machine.specs.Rules.{isStore}
 use Rattle.machine.specs.Instruction.{Instruction}
 use Rattle.record.specs.Rules.{instructionOf}
 use Rattle.pipeline.proofs.Numbers.{store-number}
-use Rattle.pipeline.proofs.Joined.{both-of, either-of}
+use Rattle.pipeline.proofs.Joined.{both-of, either, either-of, or-under}
 use Rattle.pipeline.proofs.orderly.stores_apart.Statement.{statement}
 use Rattle.pipeline.proofs.orderly.stores_apart.Tie as tie
 
@@ -31,9 +31,9 @@ returns c =
     let s = c .before .before .before .before .before .before .before .before .args .s in
     both-of
     (both-of
-    (either-of refl (ap not (sym (store-number _) ∙ ap (λ (i : Instruction). isStore (i .kind)) (h .WB))))
+    (either _ _ ∙ or-under (s .WB .filled) (λ t. ap not (sym (store-number _) ∙ ap (λ (i : Instruction). isStore (i .kind)) (h .WB t))))
     (either-of refl (ap (λ (m : ℕ). ltb (s .ST .index + m) (s .fetched)) (c .before .before .before .before .before .before .in-flight .ensures .0))))
-    (either-of refl (sym (store-number _) ∙ ap (λ (i : Instruction). isStore (i .kind)) (h .ST)))
+    (either _ _ ∙ or-under (s .ST .filled) (λ t. sym (store-number _) ∙ ap (λ (i : Instruction). isStore (i .kind)) (h .ST t)))
 
 pub stores-apart-spec : {M : Type 1} → statement M
 stores-apart-spec =

@@ -1,21 +1,37 @@
--- `pipeline::stepping::cycle` meets its contract: the masks give who moves, and that the new slots.
+-- `pipeline::stepping::cycle` meets its contract: the masks give who moves, and that the new slots; where nobody starts, nobody moves.
 use mathlib.Core.Path.{_≡_, sym, ap, _∙_}
 use lib.Dec.{eqb}
 use borrow.Author.Needs.{needs}
-use Rattle.machine.proofs.Masks.{maskOf}
+use Rattle.machine.proofs.Connectives.{and-failed-l}
+use Rattle.machine.proofs.Masks.{maskOf, goes-post}
 use Rattle.machine.proofs.BySlots.{storeInMEM}
 use Rattle.machine.specs.Rules.{isStore}
 use Rattle.machine.specs.Instruction.{Instruction}
 use Rattle.record.specs.Rules.{instructionOf}
 use Rattle.pipeline.specs.declared.moving.Bits.{Bits}
-use Rattle.pipeline.specs.Bits.{bitOf}
-use Rattle.pipeline.proofs.Slots.{leaving-is}
+use Rattle.pipeline.specs.Bits.{bitOf, starts}
+use Rattle.pipeline.proofs.Starts.{leaving-is, standstill-is, none-set}
 use Rattle.pipeline.proofs.Numbers.{store-number}
 use Rattle.pipeline.proofs.stepping.cycle.Statement.{statement}
 use Rattle.pipeline.proofs.stepping.cycle.Tie as tie
 
 going-requires : tie.Need-going-requires
 going-requires c κs = tt
+
+none-requires : tie.Need-none-requires
+none-requires c κs = tt
+
+all-stay-requires : tie.Need-all-stay-requires
+all-stay-requires c κs = tt
+
+returns : tie.Need-returns
+returns c =
+    λ trace h e.
+    let c3 = c .before .before .before in
+    let s = c3 .before .args .s in
+    let idle = sym (c .before .before .none .ensures) ∙ c .before .if1 .taken in
+    c .all-stay .ensures
+    ∙ standstill-is trace s (none-set (starts trace s) (and-failed-l _ _ (goes-post trace s)) (c3 .going .ensures trace h e) idle)
 
 mask-requires : tie.Need-mask-requires
 mask-requires c κs = tt
@@ -32,17 +48,18 @@ leaving-requires c κs = tt
 slots-after-requires : tie.Need-slots-after-requires
 slots-after-requires c κs = search needs
 
-returns : tie.Need-returns
+returns-2 : tie.Need-returns-2
 unfolding storeInMEM instructionOf
-returns c =
+returns-2 c =
     λ trace h e.
     let c4 = c .before .before .before .before in
-    let a = c4 .before .before .before .args in
+    let c8 = c4 .before .before .before .before in
+    let a = c8 .before .args in
     let store : eqb (a .w .MEM .kind) 2 ≡ storeInMEM trace (a .s) = sym (store-number _) ∙ ap (λ (i : Instruction). isStore (i .kind)) (h .MEM) in
     c .slots-after .ensures trace h
     (c .before .leaving .ensures
     ∙ leaving-is trace (a .s)
-    (c4 .mask .ensures ∙ ap (λ (b : Bits). maskOf (bitOf b)) (c4 .before .going .ensures trace h e))
+    (c4 .mask .ensures ∙ ap (λ (b : Bits). maskOf (bitOf b)) (c8 .going .ensures trace h e))
     (c .before .before .mask2 .ensures ∙ ap (λ (b : Bits). maskOf (bitOf b)) (c .before .before .before .full .ensures trace e))
     store)
     store
@@ -52,9 +69,12 @@ cycle-spec =
     tie.close
     (tie.spec
     going-requires
+    none-requires
+    all-stay-requires
+    returns
     mask-requires
     full-requires
     mask-requires-2
     leaving-requires
     slots-after-requires
-    returns)
+    returns-2)

@@ -1,7 +1,7 @@
--- `pipeline::stepping::records` meets its contract: an accepted body has at most 4,096 records.
+-- `pipeline::stepping::records` meets its contract: a body of lawful length has at most 4,096 records.
 use native.Mathlib.Omega.{arith}
-use Rattle.record.proofs.Accepted.{few-records}
 use Rattle.record.proofs.Encoding.{length-traceOf}
+use Rattle.pipeline.proofs.Lengths.{few-records}
 use Rattle.pipeline.proofs.stepping.records.Statement.{statement}
 use Rattle.pipeline.proofs.stepping.records.Tie as tie
 

@@ -9,7 +9,7 @@ use Rattle.machine.specs.Rules.{IF, ID, EX, MEM, ST, WB, entry}
 use Rattle.record.specs.Rules.{instructionOf}
 use Rattle.pipeline.specs.declared.moving.Bits.{Bits}
 use Rattle.pipeline.proofs.Entry.{entry-of}
-use Rattle.pipeline.proofs.Slots.{slot-is, state-is}
+use Rattle.pipeline.proofs.Slots.{slot-is, state-is, leaves-filled}
 use Rattle.pipeline.proofs.Joined.{both-of}
 use Rattle.pipeline.proofs.stepping.slots_after.Statement.{statement}
 use Rattle.pipeline.proofs.stepping.slots_after.Tie as tie
@@ -62,12 +62,12 @@ returns c =
     let atWB = ap (λ (b : Bits). b .WB) m in
     state-is trace s
     (c9 .before .before .fetched-after .ensures ∙ ap (λ (b : Bool). cond b (suc (s .fetched)) (s .fetched)) atPre)
-    (slot-is trace s IF (c9 .slot-after .ensures) (atPre ∙ sym (and-true _)) (c9 .before .entry-IF .ensures ∙ entry-of IF (h .pre)) atIF)
-    (slot-is trace s ID (c6 .before .before .slot-after2 .ensures) (atIF ∙ sym (and-true _)) refl atID)
-    (slot-is trace s EX (c6 .before .slot-after3 .ensures) (atID ∙ sym (and-true _)) (entry-of EX (h .ID)) atEX)
-    (slot-is trace s MEM (c3 .before .before .slot-after4 .ensures) (atEX ∙ sym (and-true _)) (c6 .entry-MEM .ensures ∙ entry-of MEM (h .EX)) atMEM)
-    (slot-is trace s ST (c .before .before .slot-after5 .ensures) (both-of atMEM t) (c3 .entry-ST .ensures ∙ entry-of ST (h .MEM)) atST)
-    (slot-is trace s WB (c .slot-after6 .ensures) (both-of atMEM (ap not t)) refl atWB)
+    (slot-is trace s IF (c9 .slot-after .ensures) (atPre ∙ sym (and-true _)) (λ _. c9 .before .entry-IF .ensures ∙ entry-of IF (h .pre)) atIF)
+    (slot-is trace s ID (c6 .before .before .slot-after2 .ensures) (atIF ∙ sym (and-true _)) (λ _. refl) atID)
+    (slot-is trace s EX (c6 .before .slot-after3 .ensures) (atID ∙ sym (and-true _)) (λ a. entry-of EX (h .ID (leaves-filled trace s ID refl (sym atID ∙ a)))) atEX)
+    (slot-is trace s MEM (c3 .before .before .slot-after4 .ensures) (atEX ∙ sym (and-true _)) (λ a. c6 .entry-MEM .ensures ∙ entry-of MEM (h .EX (leaves-filled trace s EX refl (sym atEX ∙ a)))) atMEM)
+    (slot-is trace s ST (c .before .before .slot-after5 .ensures) (both-of atMEM t) (λ _. c3 .entry-ST .ensures ∙ entry-of ST (h .MEM)) atST)
+    (slot-is trace s WB (c .slot-after6 .ensures) (both-of atMEM (ap not t)) (λ _. refl) atWB)
 
 pub slots-after-spec : {M : Type 1} → statement M
 slots-after-spec =

@@ -1,12 +1,12 @@
--- `pipeline::worst::with_misses` meets its contract: each field settled is the settled trace's instruction there.
+-- `pipeline::reading::with_misses` meets its contract: each field settled is the settled trace's instruction there.
 use Prim.Native.Nat.{ℕ}
 use mathlib.Core.Path.{_≡_, ap, sym, _∙_}
 use Rattle.machine.specs.Instruction.{Trace, Instruction, miss, instruction}
 use Rattle.machine.specs.Time.{settle, settleInstruction}
 use Rattle.record.specs.Rules.{flagOf}
 use Rattle.schedule.proofs.Settled.{instruction-settle}
-use Rattle.pipeline.proofs.worst.with_misses.Statement.{statement}
-use Rattle.pipeline.proofs.worst.with_misses.Tie as tie
+use Rattle.pipeline.proofs.reading.with_misses.Statement.{statement}
+use Rattle.pipeline.proofs.reading.with_misses.Tie as tie
 
 -- one instruction of the trace, settled
 settled :
@@ -48,12 +48,12 @@ returns c trace s h =
     let c6 = c5 .before in
     record {
       pre = settled trace _ (c6 .settle-fields .ensures) (h .pre);
-      IF = settled trace _ (c5 .settle-fields2 .ensures) (h .IF);
-      ID = settled trace _ (c4 .settle-fields3 .ensures) (h .ID);
-      EX = settled trace _ (c3 .settle-fields4 .ensures) (h .EX);
+      IF = λ t. settled trace _ (c5 .settle-fields2 .ensures) (h .IF t);
+      ID = λ t. settled trace _ (c4 .settle-fields3 .ensures) (h .ID t);
+      EX = λ t. settled trace _ (c3 .settle-fields4 .ensures) (h .EX t);
       MEM = settled trace _ (c2 .settle-fields5 .ensures) (h .MEM);
-      ST = settled trace _ (c1 .settle-fields6 .ensures) (h .ST);
-      WB = settled trace _ (c .settle-fields7 .ensures) (h .WB);
+      ST = λ t. settled trace _ (c1 .settle-fields6 .ensures) (h .ST t);
+      WB = λ t. settled trace _ (c .settle-fields7 .ensures) (h .WB t);
     }
 
 pub with-misses-spec : {M : Type 1} → statement M

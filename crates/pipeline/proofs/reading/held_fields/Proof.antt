@@ -1,0 +1,16 @@
+-- `pipeline::reading::held_fields` meets its contract: it is asked of a filled slot alone.
+use Rattle.machine.proofs.Connectives.{clash}
+use Rattle.pipeline.proofs.reading.held_fields.Statement.{statement}
+use Rattle.pipeline.proofs.reading.held_fields.Tie as tie
+
+fields-requires : tie.Need-fields-requires
+fields-requires c κs = tt
+
+returns : tie.Need-returns
+returns c t = c .fields .ensures
+
+returns-2 : tie.Need-returns-2
+returns-2 c t = clash t (c .if1 .left)
+
+pub held-fields-spec : {M : Type 1} → statement M
+held-fields-spec = tie.close (tie.spec fields-requires returns returns-2)

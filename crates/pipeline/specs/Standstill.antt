@@ -1,0 +1,20 @@
+-- A cycle in which nobody moves: every count is less 1, and an empty slot is as it is.
+use mathlib.Core.Bool.{false}
+use Rattle.machine.specs.declared.Slot.{Slot}
+use Rattle.machine.specs.declared.State.{State}
+use Rattle.machine.proofs.BySlots.{slotAfter}
+
+abbrev pub stays : Slot → Slot
+stays held = slotAfter false 0 0 false held
+
+abbrev pub standstill : State → State
+standstill s =
+    record {
+      fetched = s .fetched;
+      IF = stays (s .IF);
+      ID = stays (s .ID);
+      EX = stays (s .EX);
+      MEM = stays (s .MEM);
+      ST = stays (s .ST);
+      WB = stays (s .WB);
+    }
