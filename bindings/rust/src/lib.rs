@@ -63,7 +63,7 @@ impl State {
     }
 
     /// A copy that is read as the fields were written: a wider load would wait until the narrow stores before it have
-    /// reached the cache, which costs a quarter of a step.
+    /// reached the cache, which costs a tenth of a step or more.
     #[inline]
     fn field_by_field(&self) -> State {
         State {
@@ -180,7 +180,7 @@ pub fn write(counts: &[u16], records: &[u8], out: &mut [u8]) -> Result<usize, Re
 /// The state one cycle on. Refuses 10, 8, 11, 12.
 #[inline]
 pub fn step(body: &[u8], state: State) -> Result<State, Refusal> {
-    let mut own = state;
+    let mut own = state.field_by_field();
     own.advance(body)?;
     Ok(own.field_by_field())
 }

@@ -31,7 +31,7 @@ onward refusal trace s =
 unfoldable pub stepAnswer : List ℕ → State → Stepped
 stepAnswer body s = onward (stepRefusal body s) (traceOf body) s
 
--- One cycle of a chart: its body's records are known to keep their rules, so that only the length is tested, and "unknown flags count as misses".
+-- One cycle of the chart "with unknowns as misses": its body's records are known to keep their rules, so that only the length is tested.
 unfoldable pub worstRefusal : List ℕ → State → ℕ
 worstRefusal body s = lengthRefusal body then notOrderly unless orderly (settle miss (traceOf body)) s
 

@@ -10,11 +10,12 @@ use clock::{alone, once, race};
 use std::hint::black_box;
 
 const N: usize = sic::MAX_INSTRUCTIONS;
+const SHORT: usize = 12;
+/// How many random traces a call goes through in turn: of a single one the processor learns by heart which way each jump goes.
+const LONG_TRACES: usize = 16;
+const SHORT_TRACES: usize = 1000;
 /// Step checks its whole body in each cycle, so that a few cycles of a long trace tell its cost.
 const STEPS: u32 = 16;
-/// A short trace, and how many of them are run, so that no processor learns one by heart.
-const SHORT: usize = 12;
-const SHORT_TRACES: usize = 1000;
 
 fn line(call: &str, trace: &str, (ours, rust): (f64, f64), cycles: Option<f64>) {
     let simulator = cycles.map_or("".into(), |t| format!("{:.0}", t / ours));
@@ -25,81 +26,93 @@ fn number<T>(answer: Result<T, sic::Refusal>) -> Result<T, u32> {
     answer.map_err(|r| r.number())
 }
 
-fn checks(trace: &str, body: &[u8]) {
+/// A call on one item after the other, and the same in Rust; the time of each for one item.
+fn race_each<I, T: PartialEq + std::fmt::Debug>(items: &[I], ours: impl Fn(&I) -> T, rust: impl Fn(&I) -> T) -> (f64, f64) {
+    items.iter().for_each(|i| assert_eq!(ours(i), rust(i)));
+    let all = |f: &dyn Fn(&I) -> T| items.iter().for_each(|i| drop(black_box(f(black_box(i)))));
+    let (a, b) = race(|| all(&ours), || all(&rust));
+    (a / items.len() as f64, b / items.len() as f64)
+}
+
+/// What a simulator takes for one of the traces.
+fn simulated<T>(bodies: &[&[u8]], f: impl Fn(&[u8]) -> T) -> f64 {
+    once(|| bodies.iter().for_each(|b| drop(black_box(f(b))))).1 / bodies.len() as f64
+}
+
+fn file_of(body: &[u8]) -> Vec<u8> {
     let mut file = vec![0; sic::MAX_FILE_BYTES];
     let length = sic::write(&[(body.len() / sic::RECORD_SIZE) as u16], body, &mut file).unwrap();
-    let file = &file[..length];
-    let open = race(|| number(sic::open(black_box(file), 0)), || natural::open(black_box(file), 0));
+    file.truncate(length);
+    file
+}
+
+fn checks(trace: &str, bodies: &[&[u8]]) {
+    let files: Vec<Vec<u8>> = bodies.iter().map(|b| file_of(b)).collect();
+    let opened = |part: &[u8]| (part.len(), part.as_ptr());
+    let open = race_each(&files, |f| number(sic::open(f, 0)).map(opened), |f| natural::open(f, 0).map(opened));
     line("Open", trace, open, None);
-    let check = race(|| number(sic::View::new(black_box(body)).map(|_| ())), || natural::check(black_box(body)));
+    let check = race_each(bodies, |b| number(sic::View::new(b).map(|_| ())), |b| natural::check(b));
     line("body check", trace, check, None);
 }
 
-fn bounds(trace: &str, body: &[u8]) {
-    let pair = |t: sic::Times| (t.best, t.worst);
-    let times = race(|| number(sic::best_worst(black_box(body)).map(pair)), || natural::best_worst(black_box(body)));
-    let (both, slow) = once(|| natural::best_worst_by_cycles(body));
-    assert_eq!(Ok(both), sic::best_worst(body).map(pair));
-    line("Best and worst", trace, times, Some(slow));
-}
-
 /// Finish, and Run to the end, which is the longest way.
-fn ends(trace: &str, body: &[u8]) {
-    let finish = race(|| number(sic::finish(black_box(body))), || natural::finish(black_box(body)));
+fn ends(trace: &str, bodies: &[&[u8]]) {
+    let finish = race_each(bodies, |b| number(sic::finish(b)), |b| natural::finish(b));
     let whole = |r: sic::Run| (r.state, r.cycles, r.left);
-    let run = race(|| number(sic::run(black_box(body), u32::MAX).map(whole)), || natural::run(black_box(body), u32::MAX));
-    let ((state, cycles), slow) = once(|| natural::simulate(body, u32::MAX));
-    assert_eq!((Ok(cycles), Ok(state)), (sic::finish(body), sic::run(body, u32::MAX).map(|r| r.state)));
+    let run = race_each(bodies, |b| number(sic::run(b, u32::MAX).map(whole)), |b| natural::run(b, u32::MAX));
+    let slow = simulated(bodies, |b| {
+        let (state, cycles) = natural::simulate(b, u32::MAX);
+        assert_eq!((Ok(cycles), Ok(state)), (sic::finish(b), sic::run(b, u32::MAX).map(|r| r.state)));
+    });
     line("Finish", trace, finish, Some(slow));
     line("Run", trace, run, Some(slow));
 }
 
-/// Cycles from the middle of the run.
-fn steps(trace: &str, body: &[u8], cycles: u32) {
-    let middle = sic::run(body, sic::finish(body).unwrap() / 2).unwrap().state;
-    let ours = || (0..cycles).fold(middle, |s, _| sic::step(black_box(body), s).unwrap());
-    let rust = || (0..cycles).fold(middle, |s, _| natural::step(black_box(body), &s).unwrap());
-    let (a, b) = race(ours, rust);
-    line("Step, a cycle", trace, (a / cycles as f64, b / cycles as f64), None);
+fn bounds(trace: &str, bodies: &[&[u8]]) {
+    let pair = |t: sic::Times| (t.best, t.worst);
+    let times = race_each(bodies, |b| number(sic::best_worst(b).map(pair)), |b| natural::best_worst(b));
+    let slow = simulated(bodies, |b| assert_eq!(Ok(natural::best_worst_by_cycles(b)), sic::best_worst(b).map(pair)));
+    line("Best and worst", trace, times, Some(slow));
 }
 
-/// How many cycles all the traces take together, each run from the start to its end by `step`.
-fn to_the_end(bodies: &[&[u8]], step: impl Fn(&[u8], &mut sic::State)) -> u32 {
-    let mut cycles = 0;
-    for &body in bodies {
-        let mut s = sic::State::start();
-        while !natural::all_left(body, &s) {
-            step(black_box(body), &mut s);
-            cycles += 1;
-        }
+/// A state, and how many cycles are run from it: a short trace whole, a long one in its middle.
+fn stretch(body: &[u8]) -> (&[u8], sic::State, u32) {
+    let finish = sic::finish(body).unwrap();
+    if body.len() <= SHORT * sic::RECORD_SIZE {
+        return (body, sic::State::start(), finish);
     }
-    cycles
+    (body, sic::run(body, finish / 2).unwrap().state, STEPS)
 }
 
-/// Short traces from the start to the end, where a cycle is not lost in the body's check.
-fn short_steps(trace: &str, bodies: &[&[u8]]) {
-    let rust = || to_the_end(bodies, |b, s| *s = natural::step(b, s).unwrap());
-    let cycles = rust() as f64;
-    let (a, b) = race(|| to_the_end(bodies, |b, s| *s = sic::step(b, *s).unwrap()), rust);
+fn in_place(body: &[u8], mut state: sic::State, cycles: u32) -> sic::State {
+    for _ in 0..cycles {
+        state.advance(black_box(body)).unwrap();
+    }
+    state
+}
+
+fn steps(trace: &str, bodies: &[&[u8]]) {
+    let stretches: Vec<_> = bodies.iter().map(|b| stretch(b)).collect();
+    let cycles = stretches.iter().map(|s| s.2 as f64).sum::<f64>() / bodies.len() as f64;
+    let rust = |&(body, from, cycles): &(&[u8], sic::State, u32)| (0..cycles).fold(from, |s, _| natural::step(black_box(body), &s).unwrap());
+    let (a, b) = race_each(&stretches, |&(body, from, cycles)| (0..cycles).fold(from, |s, _| sic::step(black_box(body), s).unwrap()), rust);
     line("Step, a cycle", trace, (a / cycles, b / cycles), None);
-    let (a, b) = race(|| to_the_end(bodies, |b, s| s.advance(b).unwrap()), rust);
+    let (a, b) = race_each(&stretches, |&(body, from, cycles)| in_place(body, from, cycles), rust);
     line("Step in place, a cycle", trace, (a / cycles, b / cycles), None);
 }
 
-fn short(trace: &str) {
-    let known = traces::random(SHORT * SHORT_TRACES, 8, 2);
-    let bodies: Vec<&[u8]> = known.chunks_exact(SHORT * sic::RECORD_SIZE).collect();
-    checks(trace, bodies[0]);
-    ends(trace, bodies[0]);
-    bounds(trace, &traces::random(SHORT, 8, 3));
-    short_steps(trace, &bodies);
+/// Every call on bodies of so many instructions, with known flags, and with any where the call takes any.
+fn calls(trace: &str, known: &[u8], any: &[u8], instructions: usize) {
+    let known: Vec<&[u8]> = known.chunks_exact(instructions * sic::RECORD_SIZE).collect();
+    let any: Vec<&[u8]> = any.chunks_exact(instructions * sic::RECORD_SIZE).collect();
+    checks(trace, &known);
+    ends(trace, &known);
+    bounds(trace, &any);
+    steps(trace, &known);
 }
 
-fn calls(trace: &str, known: &[u8], any: &[u8]) {
-    checks(trace, known);
-    ends(trace, known);
-    bounds(trace, any);
-    steps(trace, known, STEPS);
+fn random_calls(trace: &str, most: u64, instructions: usize, traces: usize) {
+    calls(trace, &traces::random(instructions * traces, most, 2), &traces::random(instructions * traces, most, 3), instructions);
 }
 
 fn growth(what: &str, body: &[u8]) {
@@ -112,11 +125,11 @@ fn growth(what: &str, body: &[u8]) {
 
 fn main() {
     println!("| call | trace of {N}, or as told | time | of the same in Rust | times faster than cycle after cycle |\n|---|---|---|---|---|");
-    calls("random, latencies to 8", &traces::random(N, 8, 2), &traces::random(N, 8, 3));
-    calls("random, latencies to 5,000", &traces::random(N, 5000, 2), &traces::random(N, 5000, 3));
-    calls("plain", &traces::plain(N), &traces::plain(N));
-    calls("the longest", &traces::longest(), &traces::longest());
-    short("12 random");
+    random_calls("random, latencies to 8", 8, N, LONG_TRACES);
+    random_calls("random, latencies to 5,000", 5000, N, LONG_TRACES);
+    random_calls("random, 12 instructions", 8, SHORT, SHORT_TRACES);
+    calls("plain", &traces::plain(N), &traces::plain(N), N);
+    calls("the longest", &traces::longest(), &traces::longest(), N);
     println!("\n| random trace | Finish, an instruction | Run | Best and worst |\n|---|---|---|---|");
     for n in [16, 64, 256, 1024, 4096] {
         growth(&format!("{n} instructions, latencies to 8"), &traces::random(n, 8, 2));
