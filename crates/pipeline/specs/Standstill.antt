@@ -1,4 +1,4 @@
--- A cycle in which nobody moves: every count is less 1, and an empty slot is as it is.
+-- A cycle in which nobody moves: what stands in a slot stays, its count less 1, and an empty slot is empty.
 use mathlib.Core.Bool.{false}
 use Rattle.machine.specs.declared.Slot.{Slot}
 use Rattle.machine.specs.declared.State.{State}
