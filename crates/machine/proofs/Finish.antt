@@ -103,13 +103,23 @@ finish-bounded trace = rw (finish-is trace) (leaves-within trace)
 pub all-left-is : (trace : Trace) (t : ℕ) → allLeft trace (after trace t) ≡ leb (finish trace) t
 all-left-is trace t = rw (finish-is trace) (all-left-at trace t)
 
--- and so a run may stop there
-pub stays-left : (trace : Trace) (t i : ℕ) → i < length trace → finish trace ≤ t → after trace t i ≡ record { stage = post; count = 0 }
+-- the first k instructions from the time on at which the last of them leaves,
+pub first-left
+    : (trace : Trace) (t k i : ℕ) → i < k → i < length trace → lastLeaves (behaviour trace) k ≤ t → after trace t i ≡ record { stage = post; count = 0 }
 unfolding behaviour entry
-stays-left trace t i l m =
-    let p = leaves-by (behaviour trace) (length trace) i l in
-    let q = finish-is trace in
+first-left trace t k i h l m =
+    let p = leaves-by (behaviour trace) k i h in
     bridge trace t i l ∙ at-post-level (behaviour trace) t i refl (omega arith)
+
+pub first-leave : (trace : Trace) (k : ℕ) → k ≤ length trace → lastLeaves (behaviour trace) k ≤ finish trace
+first-leave trace k l =
+    rw (finish-is trace)
+    (last-leaves-by (behaviour trace) k (lastLeaves (behaviour trace) (length trace)) λ i h.
+    leaves-by (behaviour trace) (length trace) i (omega arith))
+
+-- and so a run may stop at its finishing time
+pub stays-left : (trace : Trace) (t i : ℕ) → i < length trace → finish trace ≤ t → after trace t i ≡ record { stage = post; count = 0 }
+stays-left trace t i l m = let q = finish-is trace in first-left trace t (length trace) i l l (omega arith)
 
 pub run-stops : (trace : Trace) (t i : ℕ) → i < length trace → after trace (min t (finish trace)) i ≡ after trace t i
 run-stops trace t i l = pick (tri t (finish trace))

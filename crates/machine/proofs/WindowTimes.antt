@@ -94,7 +94,10 @@ module _ (trace : Trace) where
   unfolding timesAt
   window-times k = rw (window-seen k) (times-seen k)
 
-  -- the window after all has the finishing time
-  pub window-finish : windowBefore trace (length trace) .finish ≡ finish trace
+  -- the window has when all so far have left, and so the one after all the finishing time
+  pub window-leaves : (k : ℕ) → windowBefore trace k .finish ≡ lastLeaves b k
   unfolding seen
-  window-finish = ap (λ (w : Window). w .finish) (window-seen (length trace)) ∙ sym (finish-is trace)
+  window-leaves k = ap (λ (w : Window). w .finish) (window-seen k)
+
+  pub window-finish : windowBefore trace (length trace) .finish ≡ finish trace
+  window-finish = window-leaves (length trace) ∙ sym (finish-is trace)

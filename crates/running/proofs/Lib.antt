@@ -1,4 +1,5 @@
 pub mod RunState
 pub mod Seating
 pub mod RunPass
+pub mod Stops
 pub mod RunAnswer

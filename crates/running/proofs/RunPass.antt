@@ -3,7 +3,7 @@ use Prim.Native.Nat.{ℕ, _+_, _^_, _≤_, _<_}
 use mathlib.Core.List.{List}
 use mathlib.Core.Path.{_≡_, refl, sym, ap, _∙_}
 use native.Mathlib.Omega.{arith}
-use lib.ListN.{length, getD, replicate}
+use lib.ListN.{length, getD}
 use Rattle.machine.specs.Instruction.{Instruction, Trace, instruction}
 use Rattle.machine.specs.Rules.{after}
 use Rattle.machine.specs.Time.{bound}
@@ -16,15 +16,15 @@ use Rattle.record.specs.Rules.{instructionOf}
 use Rattle.record.specs.Body.{Bytes, records, traceOf, bodyRefusal, readAnswer}
 use Rattle.record.proofs.Accepted.{few-records}
 use Rattle.record.proofs.Encoding.{length-traceOf}
-use Rattle.schedule.specs.Code.{windowOf, numbered, maxTime, Room}
+use Rattle.schedule.specs.Code.{windowOf, numbered, maxTime, Lawful, Room}
 use Rattle.schedule.specs.declared.levels.Window.{Window}
-use Rattle.schedule.proofs.Accepted.{small, read-instruction}
+use Rattle.schedule.proofs.Accepted.{small, read-instruction, read-lawful}
 use Rattle.schedule.proofs.Pass.{pass-starts, pass-fits, pass-room, pass-slides, pass-place}
-use Rattle.running.specs.Placing.{stateWith, stateBelow, stateSeated, slotSeated, Seated, Rising, Passed}
+use Rattle.running.specs.Placing.{stateWith, stateBelow, leftSeats, stateSeated, slotSeated, Seated, Rising, Passed}
 use Rattle.running.proofs.RunState.{state-starts, state-grows, fetched-below}
-use Rattle.running.proofs.Seating.{rises}
+use Rattle.running.proofs.Seating.{rises, seat-post}
 
-pub begins : (body : List ℕ) (limit : ℕ) {w : Window} → windowOf w ≡ noWindow → Passed body limit 0 w (replicate 13 0)
+pub begins : (body : List ℕ) (limit : ℕ) {w : Window} → windowOf w ≡ noWindow → Passed body limit 0 w (leftSeats 0)
 unfolding stateSeated slotSeated
 begins body limit p =
     record {
@@ -60,8 +60,8 @@ module _ {body : List ℕ} {limit k : ℕ} {before : Window} {seats : List ℕ} 
     this-is : this ≡ instruction trace k
     this-is = read-instruction body k (here .1) e
 
-    pub may-time : TimesWithin maxTime (timesFrom window this)
-    may-time = pass-fits trace is-small k in-trace (here .2 .window) this-is
+    pub may-time : TimesWithin maxTime (timesFrom window this) × Lawful this
+    may-time = (pass-fits trace is-small k in-trace (here .2 .window) this-is, read-lawful body k (here .1) e (here .0) bytes)
 
     module _ {times : Times} (timed : times ≡ timesFrom window this) where
       pub may-slide : Room this times
@@ -81,3 +81,17 @@ module _ {body : List ℕ} {limit k : ℕ} {before : Window} {seats : List ℕ} 
             window = pass-slides trace is-small k in-trace (here .2 .window) this-is timed slid;
             state = record { long = grown .long; state = grown .state ∙ rw (place-is, here .2 .state .state) (sym (state-grows (after trace limit) k)) };
           }
+
+-- an instruction that has left by the limit, as all before it: one more has left
+pub goes
+    : {body : List ℕ} {limit k : ℕ} {before slid : Window} {read : Read} {times : Times} (bytes : Bytes body) →
+    (bodyRefusal body ≡ 0) × (k < records body) × Passed body limit k before (leftSeats k) →
+    read ≡ readAnswer body k →
+    times ≡ timesFrom (windowOf before) (instructionOf (read .fields)) →
+    times .post ≤ limit →
+    windowOf slid ≡ slide (windowOf before) (instructionOf (read .fields)) times →
+    Passed body limit (k + 1) slid (leftSeats (k + 1))
+goes {limit = limit} {k} {before} {read = read} {times} bytes here e timed left slid =
+    let rising = rises (windowOf before) (instructionOf (read .fields)) timed in
+    passes bytes here e timed slid
+    (seat-post k (leftSeats k) refl (instructionOf (read .fields)) times limit rising (omega (arith, rising .IF)) left)

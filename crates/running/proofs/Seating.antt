@@ -74,7 +74,7 @@ within-seats i e t fetched h q = rw q (within i e t fetched h .high)
 -- an instruction's times rise
 pub rises : (w : Window) (i : Instruction) {e : Times} → e ≡ timesFrom w i → Rising e
 unfolding timesFrom enterID enterEX enterMEM enterLast enterPost
-rises w i p = rw p (record { ID = omega arith; EX = omega arith; MEM = omega arith; last = omega arith })
+rises w i p = rw p (record { IF = omega arith; ID = omega arith; EX = omega arith; MEM = omega arith; last = omega arith })
 
 -- the numbers with one more fetched, and then with instruction k seated
 abbrev counted : List ℕ → List ℕ

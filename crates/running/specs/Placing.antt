@@ -1,10 +1,10 @@
 -- What Run's pass keeps after each instruction, for the pass's own functions; no public contract cites it.
 use Prim.Native.Nat.{ℕ, zero, suc, _+_, _≤_}
 use mathlib.Core.Bool.{true, cond}
-use mathlib.Core.List.{List}
+use mathlib.Core.List.{List, _∷_}
 use mathlib.Core.Path.{_≡_}
 use lib.Dec.{eqb}
-use lib.ListN.{length, getD}
+use lib.ListN.{length, getD, replicate}
 use Rattle.machine.specs.Rules.{Places, pre, IF, ID, EX, MEM, ST, WB, after}
 use Rattle.machine.specs.State.{emptySlot, fetchedBelow, occupantBelow}
 use Rattle.machine.specs.declared.Slot.{Slot}
@@ -69,6 +69,10 @@ stateSeated seats =
       WB = slotSeated seats (level WB);
     }
 
+-- the numbers where the first k instructions have left and no other is fetched
+abbrev pub leftSeats : ℕ → List ℕ
+leftSeats k = k ∷ replicate 12 0
+
 -- the numbers are all there and give the state
 pub record Seated (seats : List ℕ) (s : State) : Type 0 where
   pub long : length seats ≡ 13
@@ -76,6 +80,7 @@ pub record Seated (seats : List ℕ) (s : State) : Type 0 where
 
 -- no time is later than that of leaving
 pub record Rising (e : Times) : Type 0 where
+  pub IF : e .IF ≤ e .post
   pub ID : e .ID ≤ e .post
   pub EX : e .EX ≤ e .post
   pub MEM : e .MEM ≤ e .post

@@ -1,10 +1,11 @@
 // Run: the state after a limit of cycles from the start. One pass over the body places every
-// instruction at the limit from its times, so that no cycle is run and the limit costs nothing.
+// instruction at the limit from its times, so that no cycle is run: it goes quickly over those that
+// have left by then, seats the few that are under way, and ends where none is fetched any more.
 ghost use mathlib.Core.Path.{_≡_};
-ghost use Prim.Native.Nat.{_+_, _<_, min};
+ghost use Prim.Native.Nat.{_+_, _≤_, _<_, min};
 ghost use Rattle.record.specs.Body.{records, traceOf, bodyRefusal};
 ghost use Rattle.running.specs.Run.{ranFor, runAnswer};
-ghost use Rattle.running.specs.Placing.{Passed};
+ghost use Rattle.running.specs.Placing.{leftSeats, Passed};
 use crate::seats::SEATS;
 use crate::seats::seat;
 use crate::seats::seated;
@@ -45,15 +46,50 @@ fn pass_over(body: &[u8], limit: u32, k: u32, w: Window, seats: &mut [u32; SEATS
     slide(w, f, e)
 }
 
+// How many instructions, from the first on, have all left by a limit, and the window before the next.
+#[repr(C)]
+pub(crate) struct Gone {
+    pub(crate) count: u32,
+    pub(crate) window: Window,
+}
+
+fn gone_by(body: &[u8], limit: u32) -> Gone
+    requires { ⌜ bodyRefusal (now body) ≡ 0 ⌝ }
+    ensures { λ r. ⌜ (r .count ≤ records (now (body .entry))) × Passed (now (body .entry)) limit (r .count) (r .window) (leftSeats (r .count)) ⌝ }
+{
+    let records = (body.len() / RECORD_SIZE) as u32;
+    let mut w = no_window();
+    let mut k = 0;
+    while k < records {
+        let read = fields_at(body, k);
+        let f = read.fields;
+        let e = times_from(w, f);
+        if limit < e.post {
+            return Gone {
+                count: k,
+                window: w,
+            };
+        }
+        w = slide(w, f, e);
+        k += 1;
+    }
+    Gone {
+        count: k,
+        window: w,
+    }
+}
+
 fn run_accepted(body: &[u8], limit: u32) -> Ran
     requires { ⌜ bodyRefusal (now body) ≡ 0 ⌝ }
     ensures { λ r. ⌜ r ≡ ranFor (traceOf (now (body .entry))) limit ⌝ }
 {
     let records = (body.len() / RECORD_SIZE) as u32;
-    let mut w = no_window();
+    let gone = gone_by(body, limit);
+    let mut w = gone.window;
+    let mut k = gone.count;
     let mut seats = [0u32; SEATS];
-    let mut k = 0;
-    while k < records {
+    seats[0] = k;
+    while k < records && seats[0] == k {
         w = pass_over(body, limit, k, w, &mut seats);
         k += 1;
     }

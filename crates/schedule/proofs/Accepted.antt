@@ -1,27 +1,57 @@
 -- The trace of an accepted body, for a pass over it: it is small, and reading record k, its unknown flags settled, gives the settled trace's
 -- instruction k.
-use Prim.Native.Nat.{ℕ, _≤_, _<_}
+use Prim.Native.Nat.{ℕ, zero, suc, _≤_, _<_}
 use mathlib.Core.List.{List}
-use mathlib.Core.Path.{_≡_, sym, ap, subst, _∙_}
+use mathlib.Core.Bool.{true, false}
+use mathlib.Core.Logic.{inl, inr}
+use mathlib.Core.Path.{_≡_, refl, sym, ap, subst, _∙_}
 use native.Mathlib.Omega.{arith}
-use borrow.Author.Tests.{lt-ltb}
+use borrow.Author.Tests.{lt-ltb, eqb-true}
 use lib.ListN.{length}
 use Rattle.machine.specs.Instruction.{Flag, Instruction, instruction}
-use Rattle.machine.specs.Time.{bound, settleInstruction, settle}
+use Rattle.machine.specs.Rules.{isLoad, isStore}
+use Rattle.machine.specs.Test.{_or_}
+use Rattle.machine.specs.Time.{bound, settleFlag, settleInstruction, settle}
 use Rattle.machine.proofs.Bounds.{Limited, bound-limited}
+use Rattle.machine.proofs.Connectives.{clash}
 use Rattle.record.specs.declared.layout.Fields.{Fields}
 use Rattle.record.specs.declared.layout.Read.{Read}
-use Rattle.record.specs.Rules.{instructionOf}
+use Rattle.record.specs.Rules.{kindOf, flagOf, instructionOf}
 use Rattle.record.specs.Body.{Bytes, records, fieldsAt, traceOf, bodyRefusal, readAnswer}
 use Rattle.record.proofs.Accepted.{few-records, fields-within}
 use Rattle.record.proofs.Encoding.{length-traceOf, instruction-traceOf}
-use Rattle.record.proofs.Within.{Within}
-use Rattle.schedule.specs.Code.{maxTime}
+use Rattle.record.proofs.Within.{OneOf, Within}
+use Rattle.schedule.specs.Code.{maxTime, Lawful}
+use Rattle.schedule.proofs.Numbers.{store-number}
 use Rattle.schedule.proofs.Settled.{length-settle, instruction-settle, bound-settle}
 
 within-limited : (f : Fields) → Within f → Limited (instructionOf f)
 unfolding instructionOf
 within-limited f w = record { executionLatency = w .execution; fetchLatency = w .fetchLatency .1; dataLatency = w .dataLatency }
+
+-- a lawful record stands for a lawful instruction, also when it is settled
+lawful-kind : (n : ℕ) → n ≤ 3 → (isLoad (kindOf n) or isStore (kindOf n)) ≡ false → OneOf n 0 3
+unfolding kindOf _or_
+lawful-kind zero l e = inl refl
+lawful-kind (suc zero) l e = clash refl e
+lawful-kind (suc (suc zero)) l e = clash refl e
+lawful-kind (suc (suc (suc zero))) l e = inr refl
+lawful-kind (suc (suc (suc (suc n)))) l e = absurd (omega arith)
+
+store-kind : (n : ℕ) → isStore (kindOf n) ≡ true → OneOf n 1 2
+store-kind n e = inr (eqb-true n 2 (store-number n ∙ e))
+
+within-lawful : (f : Fields) → Within f → Lawful (instructionOf f)
+unfolding instructionOf flagOf
+within-lawful f w =
+    record {
+      no-access = λ e. ap flagOf (w .no-access (lawful-kind (f .kind) (w .kind) e) .0);
+      some-access = λ e. w .some-access (store-kind (f .kind) e);
+    }
+
+pub settled-lawful : (to : Flag) (i : Instruction) → Lawful i → Lawful (settleInstruction to i)
+unfolding settleInstruction settleFlag
+settled-lawful to i lawful = record { no-access = λ e. ap (settleFlag to) (lawful .no-access e); some-access = lawful .some-access }
 
 module _ (body : List ℕ) (b : Bytes body) (accepted : bodyRefusal body ≡ 0) where
   pub small : bound (traceOf body) ≤ maxTime
@@ -44,6 +74,9 @@ module _ (body : List ℕ) where
 
     pub read-instruction : instructionOf (read .fields) ≡ instruction (traceOf body) k
     read-instruction = ap instructionOf read-fields ∙ sym (instruction-traceOf body k inside)
+
+    pub read-lawful : bodyRefusal body ≡ 0 → Bytes body → Lawful (instructionOf (read .fields))
+    read-lawful accepted b = rw read-fields (within-lawful (fieldsAt body k) (fields-within body accepted b k inside))
 
     pub read-settled : (to : Flag) {i : Instruction} → i ≡ settleInstruction to (instructionOf (read .fields)) → i ≡ instruction (settle to (traceOf body)) k
     read-settled to p = p ∙ ap (settleInstruction to) read-instruction ∙ sym (instruction-settle to (traceOf body) k)

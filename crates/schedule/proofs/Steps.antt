@@ -1,7 +1,8 @@
 -- What the calls of each function that the window takes give together, over plain variables: one congruence for each.
 use Prim.Native.Nat.{ℕ, _+_, _-_, max}
 use mathlib.Core.Bool.{Bool, cond, _&&_, _||_}
-use mathlib.Core.Path.{_≡_, _∙_}
+use mathlib.Core.Path.{_≡_, _∙_, sym}
+use native.Mathlib.Omega.{arith}
 use lib.Dec.{ltb, eqb}
 use Rattle.machine.specs.Instruction.{Instruction}
 use Rattle.machine.specs.Rules.{IF, EX, MEM, isLoad, isStore, isBranch, hits, misses, entry, reads, missesData}
@@ -10,10 +11,36 @@ use Rattle.machine.proofs.Window as Theory
 use Rattle.machine.proofs.Window.{enterIF, enterID, enterEX, enterMEM, enterLast, lastCount, enterPost}
 use Rattle.record.specs.declared.layout.Fields.{Fields}
 use Rattle.record.specs.Rules.{flagOf, instructionOf}
-use Rattle.schedule.specs.Code.{windowOf, timesOf}
+use Rattle.schedule.specs.Code.{windowOf, timesOf, Lawful}
 use Rattle.schedule.specs.declared.levels.Window.{Window}
 use Rattle.schedule.specs.declared.levels.Times.{Times}
-use Rattle.schedule.proofs.Numbers.{miss-number, settled-number, and-is, or-is, cond-and}
+use Rattle.machine.specs.Test.{_and_, _or_}
+use Rattle.machine.proofs.Connectives.{Value, passed, failed, value}
+use Rattle.schedule.proofs.Numbers.{miss-number, settled-number, and-is, cond-and}
+
+-- The code joins what is known first, so that a time that comes late waits for one sum and one choice.
+max-joins : (a b c : ℕ) → max a (max b c) ≡ max (max a b) c
+max-joins a b c = omega arith
+
+pub sum-joins : (a b c : ℕ) → a + (b + c) ≡ a + b + c
+sum-joins a b c = omega arith
+
+-- only a load or store misses
+misses-only : (i : Instruction) → Lawful i → Value (isLoad (i .kind) or isStore (i .kind)) → misses (i .access) ≡ missesData i
+unfolding missesData _and_
+misses-only i lawful (passed e) = rw e
+misses-only i lawful (failed e) = rw (e, lawful .no-access e)
+
+cycles-more
+    : (i : Instruction) →
+    Lawful i →
+    Value (isStore (i .kind)) →
+    Value (misses (i .access)) →
+    cond (isStore (i .kind) && misses (i .access)) (i .dataLatency) 1 ≡ lastCount i + 1
+unfolding lastCount entry
+cycles-more i lawful (passed e) (passed m) = rw (e, m) (let some = lawful .some-access e in omega arith)
+cycles-more i lawful (passed e) (failed m) = rw (e, m)
+cycles-more i lawful (failed e) m = rw e
 
 -- the record with settled flags
 pub settled-fields
@@ -40,9 +67,9 @@ module _ (f : Fields) where
   abbrev i : Instruction
   i = instructionOf f
 
-  pub misses-data-is : {load store : Bool} → load ≡ isLoad (i .kind) → store ≡ isStore (i .kind) → ((load || store) && eqb (f .access) 1) ≡ missesData i
-  unfolding instructionOf missesData
-  misses-data-is {load} {store} p q = rw (miss-number (f .access), and-is (load || store) (misses (flagOf (f .access))), or-is load store, p, q)
+  pub misses-data-is : Lawful i → eqb (f .access) 1 ≡ missesData i
+  unfolding instructionOf
+  misses-data-is lawful = miss-number (f .access) ∙ misses-only i lawful (value (isLoad (i .kind) or isStore (i .kind)))
 
   pub IF-count : {r : ℕ} → r ≡ cond (eqb (f .fetch) 1) (f .«fetch_latency») 0 → r ≡ entry i IF
   unfolding instructionOf entry
@@ -61,61 +88,71 @@ module _ (f : Fields) where
   unfolding instructionOf entry lastCount
   last-count {store} {late} p q s = s ∙ rw (miss-number (f .access), cond-and store (misses (flagOf (f .access))) late, p, q)
 
+  -- a cycle more than the count, which on a store's miss is the latency less 1
+  pub last-cycles
+      : Lawful i →
+      {store : Bool} {r : ℕ} →
+      store ≡ isStore (i .kind) →
+      r ≡ cond (store && eqb (f .access) 1) (f .«data_latency») 1 →
+      r ≡ lastCount i + 1
+  unfolding instructionOf
+  last-cycles lawful {store} p q = q ∙ rw (miss-number (f .access), p) (cycles-more i lawful (value (isStore (i .kind))) (value (misses (i .access))))
+
   module _ (w : Window) where
     pub IF-step
-        : {free waited rest r access : ℕ} {hit : Bool} →
+        : {free waited own r access : ℕ} {hit : Bool} →
         free ≡ max 1 (w .ID) →
         hit ≡ hits (i .fetch) →
         access ≡ max (w .«load_done») (w .«store_done») →
         waited ≡ cond hit 0 access →
-        rest ≡ max (w .«branch_done») waited →
-        r ≡ max free rest →
+        own ≡ max free (w .«branch_done») →
+        r ≡ max own waited →
         r ≡ enterIF (windowOf w) i
     unfolding enterIF
-    IF-step a b c d e g = g ∙ rw (a, e, d, c, b)
+    IF-step {waited = waited} a b c d e g = g ∙ rw (e, a, sym (max-joins (max 1 (w .ID)) (w .«branch_done») waited), d, c, b)
 
-    pub ID-step : (from : ℕ) {count r : ℕ} → count ≡ entry i IF → r ≡ max (from + count + 1) (w .EX) → r ≡ enterID (windowOf w) i from
+    pub ID-step : (from : ℕ) {count r : ℕ} → count ≡ entry i IF → r ≡ max (from + (count + 1)) (w .EX) → r ≡ enterID (windowOf w) i from
     unfolding enterID
-    ID-step from a b = b ∙ rw a
+    ID-step from a b = b ∙ rw (a, sum-joins from (entry i IF) 1)
 
     pub EX-step
-        : (from : ℕ) {own load r : ℕ} {needed : Bool} →
+        : (from : ℕ) {held load r : ℕ} {needed : Bool} →
         needed ≡ reads i (w .«load_target») →
         load ≡ cond needed (w .«load_done») 0 →
-        own ≡ max (from + 1) (w .MEM) →
-        r ≡ max own load →
+        held ≡ max (w .MEM) load →
+        r ≡ max (from + 1) held →
         r ≡ enterEX (windowOf w) i from
     unfolding enterEX
-    EX-step from a b c d = d ∙ rw (c, b, a)
+    EX-step from {load = load} a b c d = d ∙ rw (c, max-joins (from + 1) (w .MEM) load, b, a)
 
     pub MEM-step
-        : (from : ℕ) {own store r : ℕ} {missed : Bool} →
+        : (from : ℕ) {held store r : ℕ} {missed : Bool} →
         missed ≡ missesData i →
         store ≡ cond missed (w .«store_done») 0 →
-        own ≡ max (from + f .execution + 1) (w .last) →
-        r ≡ max own store →
+        held ≡ max (w .last) store →
+        r ≡ max (from + (f .execution + 1)) held →
         r ≡ enterMEM (windowOf w) i from
     unfolding enterMEM entry instructionOf
-    MEM-step from a b c d = d ∙ rw (c, b, a)
+    MEM-step from {store = store} a b c d = d ∙ rw (c, max-joins (from + (f .execution + 1)) (w .last) store, sum-joins from (f .execution) 1, b, a)
 
     pub last-step
         : (from : ℕ) {count store r : ℕ} {stores : Bool} →
         count ≡ entry i MEM →
         stores ≡ isStore (i .kind) →
         store ≡ cond stores (w .«store_done») 0 →
-        r ≡ max (from + count + 1) store →
+        r ≡ max (from + (count + 1)) store →
         r ≡ enterLast (windowOf w) i from
     unfolding enterLast
-    last-step from a b c d = d ∙ rw (a, c, b)
+    last-step from a b c d = d ∙ rw (a, sum-joins from (entry i MEM) 1, c, b)
 
     -- the window slides
     pub slid
         : (e : Times) {branchDone loadDone storeDone loadTarget finish count : ℕ} {load branch store : Bool} →
         load ≡ isLoad (i .kind) →
         branch ≡ isBranch (i .kind) →
-        branchDone ≡ cond branch (e .EX + f .execution + 1) (w .«branch_done») →
+        branchDone ≡ cond branch (e .EX + (f .execution + 1)) (w .«branch_done») →
         count ≡ entry i MEM →
-        loadDone ≡ cond load (e .MEM + count + 1) (w .«load_done») →
+        loadDone ≡ cond load (e .MEM + (count + 1)) (w .«load_done») →
         store ≡ isStore (i .kind) →
         storeDone ≡ cond store (e .post) (w .«store_done») →
         loadTarget ≡ cond load (f .target) 0 →
@@ -136,7 +173,8 @@ module _ (f : Fields) where
         (Theory.slide (windowOf w) i (timesOf e))
     unfolding Theory.slide entry instructionOf
     slid e load branch branchDone count loadDone store storeDone loadTarget finish =
-        rw (branchDone, loadDone, storeDone, loadTarget, finish, count, load, branch, store)
+        rw
+        (branchDone, loadDone, storeDone, loadTarget, finish, count, sum-joins (e .EX) (f .execution) 1, sum-joins (e .MEM) (entry i MEM) 1, load, branch, store)
 
 -- six equal times
 pub six-times

@@ -1,6 +1,9 @@
 -- What the crate's structs stand for in the theory of the schedule, and the limit that keeps sums of 32 bits from wrapping.
-use Prim.Native.Nat.{ℕ, _+_, _^_, _<_}
-use Rattle.machine.specs.Instruction.{Instruction}
+use Prim.Native.Nat.{ℕ, _+_, _^_, _≤_, _<_}
+use mathlib.Core.Bool.{true, false}
+use mathlib.Core.Path.{_≡_}
+use Rattle.machine.specs.Test.{_or_}
+use Rattle.machine.specs.Instruction.{hit, Instruction}
 use Rattle.machine.specs.Rules as Rules
 use Rattle.machine.proofs.Stages.{level}
 use Rattle.machine.proofs.Window as Theory
@@ -32,6 +35,11 @@ numbered p = record { level = level (p .stage); count = p .count }
 -- "so at most 537,931,776": no time of an accepted trace is later
 abbrev pub maxTime : ℕ
 maxTime = 537931776
+
+-- What the times rest on of the record rules: "Kinds 0 and 3 have data bits 0", and "data latency, 1 to 65,535 for kinds 1 and 2".
+pub record Lawful (i : Instruction) : Type 0 where
+  pub no-access : (Rules.isLoad (i .kind) or Rules.isStore (i .kind)) ≡ false → i .access ≡ hit
+  pub some-access : Rules.isStore (i .kind) ≡ true → 1 ≤ i .dataLatency
 
 -- the sums that the window after an instruction takes from its times fit
 pub record Room (i : Instruction) (e : Theory.Times) : Type 0 where

@@ -17,12 +17,12 @@ ghost use Rattle.machine.proofs.Window.{
 };
 ghost use Rattle.machine.proofs.WindowBounds.{TimesWithin};
 ghost use Rattle.record.specs.Rules.{instructionOf};
-ghost use Rattle.schedule.specs.Code.{windowOf, timesOf, maxTime, Room};
+ghost use Rattle.schedule.specs.Code.{windowOf, timesOf, maxTime, Lawful, Room};
 use crate::choice::choose;
 use crate::choice::later;
 use crate::parts::count_in_if;
-use crate::parts::count_in_last;
 use crate::parts::count_in_mem;
+use crate::parts::cycles_in_last;
 use crate::parts::fetch_hits;
 use crate::parts::is_branch;
 use crate::parts::is_load;
@@ -83,14 +83,14 @@ pub fn enter_if(w: Window, f: Fields) -> u32
 {
     let free = later(1, w.ID);
     let data = choose(fetch_hits(f), 0, later(w.load_done, w.store_done));
-    later(free, later(w.branch_done, data))
+    later(later(free, w.branch_done), data)
 }
 
 pub fn enter_id(w: Window, f: Fields, from: u32) -> u32
     requires { ⌜ from + entry (instructionOf f) IF + 1 < 2 ^ 32 ⌝ }
     ensures { λ r. ⌜ r ≡ enterID (windowOf w) (instructionOf f) from ⌝ }
 {
-    later(from + count_in_if(f) + 1, w.EX)
+    later(from + (count_in_if(f) + 1), w.EX)
 }
 
 pub fn enter_ex(w: Window, f: Fields, from: u32) -> u32
@@ -98,15 +98,15 @@ pub fn enter_ex(w: Window, f: Fields, from: u32) -> u32
     ensures { λ r. ⌜ r ≡ enterEX (windowOf w) (instructionOf f) from ⌝ }
 {
     let load = choose(reads(f, w.load_target), w.load_done, 0);
-    later(later(from + 1, w.MEM), load)
+    later(from + 1, later(w.MEM, load))
 }
 
 pub fn enter_mem(w: Window, f: Fields, from: u32) -> u32
-    requires { ⌜ from + entry (instructionOf f) EX + 1 < 2 ^ 32 ⌝ }
+    requires { ⌜ (from + entry (instructionOf f) EX + 1 < 2 ^ 32) × Lawful (instructionOf f) ⌝ }
     ensures { λ r. ⌜ r ≡ enterMEM (windowOf w) (instructionOf f) from ⌝ }
 {
     let store = choose(misses_data(f), w.store_done, 0);
-    later(later(from + f.execution + 1, w.last), store)
+    later(from + (f.execution + 1), later(w.last, store))
 }
 
 pub fn enter_last(w: Window, f: Fields, from: u32) -> u32
@@ -114,21 +114,21 @@ pub fn enter_last(w: Window, f: Fields, from: u32) -> u32
     ensures { λ r. ⌜ r ≡ enterLast (windowOf w) (instructionOf f) from ⌝ }
 {
     later(
-        from + count_in_mem(f) + 1,
+        from + (count_in_mem(f) + 1),
         choose(is_store(f), w.store_done, 0),
     )
 }
 
 pub fn enter_post(f: Fields, from: u32) -> u32
-    requires { ⌜ from + lastCount (instructionOf f) + 1 < 2 ^ 32 ⌝ }
+    requires { ⌜ (from + lastCount (instructionOf f) + 1 < 2 ^ 32) × Lawful (instructionOf f) ⌝ }
     ensures { λ r. ⌜ r ≡ enterPost (instructionOf f) from ⌝ }
 {
-    from + count_in_last(f) + 1
+    from + cycles_in_last(f)
 }
 
 // All six, each from the one before.
 pub fn times_from(w: Window, f: Fields) -> Times
-    requires { ⌜ TimesWithin maxTime (timesFrom (windowOf w) (instructionOf f)) ⌝ }
+    requires { ⌜ TimesWithin maxTime (timesFrom (windowOf w) (instructionOf f)) × Lawful (instructionOf f) ⌝ }
     ensures { λ r. ⌜ timesOf r ≡ timesFrom (windowOf w) (instructionOf f) ⌝ }
 {
     let at_if = enter_if(w, f);
@@ -157,8 +157,8 @@ pub fn slide(w: Window, f: Fields, e: Times) -> Window
         EX: e.EX,
         MEM: e.MEM,
         last: e.last,
-        branch_done: choose(is_branch(f), e.EX + f.execution + 1, w.branch_done),
-        load_done: choose(load, e.MEM + count_in_mem(f) + 1, w.load_done),
+        branch_done: choose(is_branch(f), e.EX + (f.execution + 1), w.branch_done),
+        load_done: choose(load, e.MEM + (count_in_mem(f) + 1), w.load_done),
         store_done: choose(is_store(f), e.post, w.store_done),
         load_target: choose(load, f.target, 0),
         finish: later(w.finish, e.post),

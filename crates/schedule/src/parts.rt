@@ -1,6 +1,7 @@
 // What an instruction does, from its record's fields: its kind and flags, its entry counts, whom it
 // waits for.
 ghost use mathlib.Core.Path.{_≡_};
+ghost use Prim.Native.Nat.{_+_};
 ghost use Rattle.machine.specs.Rules.{
   IF,
   MEM,
@@ -14,6 +15,7 @@ ghost use Rattle.machine.specs.Rules.{
 };
 ghost use Rattle.machine.proofs.Window.{lastCount};
 ghost use Rattle.record.specs.Rules.{instructionOf};
+ghost use Rattle.schedule.specs.Code.{Lawful};
 use crate::choice::choose;
 use crate::choice::less;
 use record::Fields;
@@ -42,11 +44,12 @@ pub fn fetch_hits(f: Fields) -> bool
     f.fetch == 0
 }
 
-// Whether it is a load or store with a data miss.
+// Whether it is a load or store with a data miss; no other kind's access misses.
 pub fn misses_data(f: Fields) -> bool
+    requires { ⌜ Lawful (instructionOf f) ⌝ }
     ensures { λ r. ⌜ r ≡ missesData (instructionOf f) ⌝ }
 {
-    (is_load(f) | is_store(f)) & (f.access == 1)
+    f.access == 1
 }
 
 // Whether a register other than 0 is one of its sources.
@@ -73,4 +76,13 @@ pub fn count_in_last(f: Fields) -> u32
     ensures { λ r. ⌜ r ≡ lastCount (instructionOf f) ⌝ }
 {
     choose(is_store(f) & (f.access == 1), less(f.data_latency, 1), 0)
+}
+
+// How many cycles it has in its last stage, one more than its count: on a store's miss just its
+// latency, which is at least 1.
+pub fn cycles_in_last(f: Fields) -> u32
+    requires { ⌜ Lawful (instructionOf f) ⌝ }
+    ensures { λ r. ⌜ r ≡ lastCount (instructionOf f) + 1 ⌝ }
+{
+    choose(is_store(f) & (f.access == 1), f.data_latency, 1)
 }

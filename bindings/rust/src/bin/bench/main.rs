@@ -55,17 +55,20 @@ fn checks(trace: &str, bodies: &[&[u8]]) {
     line("body check", trace, check, None);
 }
 
-/// Finish, and Run to the end, which is the longest way.
+/// Finish, and Run to the end, which is the longest way, and half way there.
 fn ends(trace: &str, bodies: &[&[u8]]) {
     let finish = race_each(bodies, |b| number(sic::finish(b)), |b| natural::finish(b));
     let whole = |r: sic::Run| (r.state, r.cycles, r.left);
     let run = race_each(bodies, |b| number(sic::run(b, u32::MAX).map(whole)), |b| natural::run(b, u32::MAX));
+    let limits: Vec<(&[u8], u32)> = bodies.iter().map(|&b| (b, sic::finish(b).unwrap() / 2)).collect();
+    let half = race_each(&limits, |&(b, limit)| number(sic::run(b, limit).map(whole)), |&(b, limit)| natural::run(b, limit));
     let slow = simulated(bodies, |b| {
         let (state, cycles) = natural::simulate(b, u32::MAX);
         assert_eq!((Ok(cycles), Ok(state)), (sic::finish(b), sic::run(b, u32::MAX).map(|r| r.state)));
     });
     line("Finish", trace, finish, Some(slow));
     line("Run", trace, run, Some(slow));
+    line("Run, half way", trace, half, Some(slow / 2.0));
 }
 
 fn bounds(trace: &str, bodies: &[&[u8]]) {

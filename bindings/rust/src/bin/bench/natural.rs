@@ -182,8 +182,11 @@ pub fn run(body: &[u8], limit: u32) -> Result<(State, u32, bool), u32> {
         let i = read(b);
         let e = times(&w, &i);
         slide(&mut w, &i, &e);
-        s.fetched += (limit >= e[0]) as u32;
-        if limit < e[0] || limit >= e[5] {
+        if limit < e[0] {
+            break;
+        }
+        s.fetched += 1;
+        if limit >= e[5] {
             continue;
         }
         if limit < e[1] {

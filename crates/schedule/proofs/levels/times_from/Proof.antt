@@ -9,20 +9,20 @@ enter-if-requires : tie.Need-enter-if-requires
 enter-if-requires c κs = search needs
 
 enter-id-requires : tie.Need-enter-id-requires
-enter-id-requires c κs = let fetched = at-IF _ _ (c .enter-if .ensures) in room-in-IF _ _ (c .before .pre) fetched
+enter-id-requires c κs = let fetched = at-IF _ _ (c .enter-if .ensures) in room-in-IF _ _ (c .before .pre .0) fetched
 
 enter-ex-requires : tie.Need-enter-ex-requires
 enter-ex-requires c κs =
     let fetched = at-IF _ _ (c .before .enter-if .ensures) in
     let decoded = at-ID _ _ fetched (c .enter-id .ensures) in
-    room-in-ID _ _ (c .before .before .pre) decoded
+    room-in-ID _ _ (c .before .before .pre .0) decoded
 
 enter-mem-requires : tie.Need-enter-mem-requires
 enter-mem-requires c κs =
     let fetched = at-IF _ _ (c .before .before .enter-if .ensures) in
     let decoded = at-ID _ _ fetched (c .before .enter-id .ensures) in
     let executed = at-EX _ _ decoded (c .enter-ex .ensures) in
-    room-in-EX _ _ (c .before .before .before .pre) executed
+    (room-in-EX _ _ (c .before .before .before .pre .0) executed, c .before .before .before .pre .1)
 
 enter-last-requires : tie.Need-enter-last-requires
 enter-last-requires c κs =
@@ -30,7 +30,7 @@ enter-last-requires c κs =
     let decoded = at-ID _ _ fetched (c .before .before .enter-id .ensures) in
     let executed = at-EX _ _ decoded (c .before .enter-ex .ensures) in
     let accessed = at-MEM _ _ executed (c .enter-mem .ensures) in
-    room-in-MEM _ _ (c .before .before .before .before .pre) accessed
+    room-in-MEM _ _ (c .before .before .before .before .pre .0) accessed
 
 enter-post-requires : tie.Need-enter-post-requires
 enter-post-requires c κs =
@@ -39,7 +39,7 @@ enter-post-requires c κs =
     let executed = at-EX _ _ decoded (c .before .before .enter-ex .ensures) in
     let accessed = at-MEM _ _ executed (c .before .enter-mem .ensures) in
     let ended = at-last _ _ accessed (c .enter-last .ensures) in
-    room-in-last _ _ (c .before .before .before .before .before .pre) ended
+    (room-in-last _ _ (c .before .before .before .before .before .pre .0) ended, c .before .before .before .before .before .pre .1)
 
 returns : tie.Need-returns
 returns c =

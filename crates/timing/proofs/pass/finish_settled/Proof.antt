@@ -13,8 +13,8 @@ use Rattle.record.specs.declared.layout.Read.{Read}
 use Rattle.record.specs.Rules.{flagOf, instructionOf}
 use Rattle.record.specs.Body.{Bytes, records, traceOf, bodyRefusal, readAnswer}
 use Rattle.record.proofs.Accepted.{few-records}
-use Rattle.schedule.specs.Code.{windowOf, maxTime, Room}
-use Rattle.schedule.proofs.Accepted.{settled-small, length-settled, read-settled}
+use Rattle.schedule.specs.Code.{windowOf, maxTime, Lawful, Room}
+use Rattle.schedule.proofs.Accepted.{settled-lawful, settled-small, length-settled, read-lawful, read-settled}
 use Rattle.schedule.proofs.Pass.{pass-starts, pass-ends, pass-fits, pass-room, pass-slides}
 use Rattle.timing.proofs.pass.finish_settled.Statement.{statement}
 use Rattle.timing.proofs.pass.finish_settled.Tie as tie
@@ -40,8 +40,11 @@ module _ (body : List ℕ) (b : Bytes body) (accepted : bodyRefusal body ≡ 0) 
       in-trace : k < length trace
       in-trace = omega (arith, length-settled body to)
 
-      fits : TimesWithin maxTime (timesFrom w i)
-      fits = pass-fits trace (settled-small body b accepted to) k in-trace at this
+      fits : TimesWithin maxTime (timesFrom w i) × Lawful i
+      fits = (
+        pass-fits trace (settled-small body b accepted to) k in-trace at this,
+        rw settled (settled-lawful to (instructionOf (read .fields)) (read-lawful body k inside e accepted b)),
+      )
 
       room : {times : Times} → times ≡ timesFrom w i → Room i times
       room = pass-room trace (settled-small body b accepted to) k in-trace at this
