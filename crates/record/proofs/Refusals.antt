@@ -22,6 +22,14 @@ stop second e h = e ∙ sym (then-some _ second (λ q. h (e ∙ q)))
 pub go-on : {r q first second : ℕ} → r ≡ first → r ≡ 0 → q ≡ second → q ≡ (first then second)
 go-on e z f = f ∙ sym (then-none _ _ (sym e ∙ z))
 
+-- three in their order, the first two joined or the last two
+pub then-joins : (first second third : ℕ) → (first then second then third) ≡ ((first then second) then third)
+then-joins first second third =
+    elim (ℕ-discrete first 0) [
+      | yes z ↦ then-none first (second then third) z ∙ rw (then-none first second z)
+      | no h ↦ then-some first (second then third) h ∙ rw (then-some first second h) (sym (then-some first third h))
+    ]
+
 -- where nothing refuses, neither does
 pub then-first : (first second : ℕ) → (first then second) ≡ 0 → first ≡ 0
 then-first first second e = elim (ℕ-discrete first 0) [ yes z ↦ z | no h ↦ sym (then-some first second h) ∙ e ]

@@ -1,5 +1,5 @@
 -- What a record that breaks no rule tells of its fields, as bounds that arithmetic reads: the joined tests of the rules, taken apart.
-use Prim.Native.Nat.{ℕ, _+_, _≤_, _<_}
+use Prim.Native.Nat.{ℕ, zero, suc, _+_, _≤_, _<_}
 use mathlib.Core.Bool.{Bool, true, false, not, _||_, _&&_}
 use mathlib.Core.List.{List}
 use mathlib.Core.Logic.{_⊎_, inl, inr}
@@ -9,7 +9,7 @@ use borrow.Author.Tests.{ltb-false, eqb-true, eqb-false, eq-eqb, not-false}
 use lib.Dec.{ltb, eqb}
 use Rattle.record.specs.declared.layout.Fields.{Fields}
 use Rattle.record.specs.Layout.{executionAt, fetchLatencyAt, dataLatencyAt, fieldsFrom}
-use Rattle.record.specs.Rules.{badKind, badFlags, noAccess, strayAccess, badRegister, strayTarget, badFetchLatency, badDataLatency, breaksRules}
+use Rattle.record.specs.Rules.{badKind, badFlags, noAccess, strayAccess, badRegister, strayTarget, badFetchLatency, badDataLatency, breaksRules, hasUnknown}
 use Rattle.record.specs.Body.{Bytes}
 
 pub or-false : (a b : Bool) → (a || b) ≡ false → (a ≡ false) × (b ≡ false)
@@ -138,3 +138,14 @@ module _ (f : Fields) (flags : ℕ) (lawful : breaksRules f flags ≡ false) whe
         some-access = λ k. above-where (eqb (f .kind) 1 || eqb (f .kind) 2) (f .«data_latency») (data-rules .0) (one-of (f .kind) 1 2 k);
         no-target = λ k. zero-where (eqb (f .kind) 2 || eqb (f .kind) 3) (f .target) (rules .4) (one-of (f .kind) 2 3 k);
       }
+
+-- a flag above 1 is unknown
+above-one : (n : ℕ) → n ≤ 2 → ltb 1 n ≡ eqb n 2
+above-one zero l = refl
+above-one (suc zero) l = refl
+above-one (suc (suc zero)) l = refl
+above-one (suc (suc (suc n))) l = absurd (omega arith)
+
+pub unknown-is : (f : Fields) → Within f → (ltb 1 (f .fetch) || ltb 1 (f .access)) ≡ hasUnknown f
+unfolding hasUnknown
+unknown-is f w = rw (above-one (f .fetch) (w .fetch), above-one (f .access) (w .access))

@@ -1,11 +1,12 @@
 // The refusals that every call shares: 10 a wrong length, 8 a record that breaks its rules, 11 an
 // unknown flag.
 ghost use mathlib.Core.Path.{_≡_};
-ghost use mathlib.Core.Bool.{cond};
+ghost use mathlib.Core.Bool.{false, cond};
 ghost use Prim.Native.Nat.{_+_, _/_, _%_, _≤_};
 ghost use lib.ListN.{length};
 ghost use Rattle.little_endian.specs.Numbers.{byte};
 ghost use Rattle.record.specs.Layout.{recordSize, flagsAt, fieldsFrom};
+ghost use Rattle.record.specs.Refusal.{_then_};
 ghost use Rattle.record.specs.Rules.{breaksRules, hasUnknown};
 ghost use Rattle.record.specs.Body.{
   lengthRefusal,
@@ -63,12 +64,13 @@ fn breaks_from(bytes: &[u8], at: usize) -> bool
     breaks_rules(fields_from(bytes, at), byte_at(bytes, at + FLAGS))
 }
 
+// Whether a record that breaks no rule has an unknown flag: one above 1 is then 2.
 fn unknown_from(bytes: &[u8], at: usize) -> bool
-    requires { ⌜ at + recordSize ≤ length (now bytes) ⌝ }
+    requires { ⌜ (at + recordSize ≤ length (now bytes)) × (breaksRules (fieldsFrom (now bytes) at) (byte (now bytes) (at + flagsAt)) ≡ false) ⌝ }
     ensures { λ r. ⌜ r ≡ hasUnknown (fieldsFrom (now (bytes .entry)) at) ⌝ }
 {
     let f = fields_from(bytes, at);
-    (f.fetch == 2) | (f.access == 2)
+    (f.fetch > 1) | (f.access > 1)
 }
 
 pub fn length_refusal(body: &[u8]) -> u32
@@ -83,30 +85,31 @@ pub fn length_refusal(body: &[u8]) -> u32
     0
 }
 
-pub fn record_refusal(body: &[u8]) -> u32
-    ensures { λ r. ⌜ r ≡ recordRefusal (now (body .entry)) ⌝ }
+// 8, then 11, in one pass: an unknown flag counts only where no record breaks its rules.
+fn known_refusal(body: &[u8]) -> u32
+    ensures { λ r. ⌜ r ≡ (recordRefusal (now (body .entry)) then unknownRefusal (now (body .entry))) ⌝ }
 {
     let records = body.len() / RECORD_SIZE;
+    let mut unknown = false;
     let mut k = 0;
     while k < records {
         if breaks_from(body, k * RECORD_SIZE) {
             return BROKEN_RECORD;
         }
+        unknown = unknown | unknown_from(body, k * RECORD_SIZE);
         k += 1;
+    }
+    if unknown {
+        return UNKNOWN_FLAG;
     }
     0
 }
 
-pub fn unknown_refusal(body: &[u8]) -> u32
-    ensures { λ r. ⌜ r ≡ unknownRefusal (now (body .entry)) ⌝ }
+pub fn record_refusal(body: &[u8]) -> u32
+    ensures { λ r. ⌜ r ≡ recordRefusal (now (body .entry)) ⌝ }
 {
-    let records = body.len() / RECORD_SIZE;
-    let mut i = 0;
-    while i < records {
-        if unknown_from(body, i * RECORD_SIZE) {
-            return UNKNOWN_FLAG;
-        }
-        i += 1;
+    if known_refusal(body) == BROKEN_RECORD {
+        return BROKEN_RECORD;
     }
     0
 }
@@ -126,9 +129,9 @@ pub fn body_refusal(body: &[u8]) -> u32
 pub fn settled_refusal(body: &[u8]) -> u32
     ensures { λ r. ⌜ r ≡ settledRefusal (now (body .entry)) ⌝ }
 {
-    let body_fault = body_refusal(body);
-    if body_fault != 0 {
-        return body_fault;
+    let fault = length_refusal(body);
+    if fault != 0 {
+        return fault;
     }
-    unknown_refusal(body)
+    known_refusal(body)
 }

@@ -8,7 +8,6 @@ pub use body::body_refusal;
 pub use body::length_refusal;
 pub use body::record_refusal;
 pub use body::settled_refusal;
-pub use body::unknown_refusal;
 pub use layout::Fields;
 pub use layout::Read;
 pub use layout::fields_at;

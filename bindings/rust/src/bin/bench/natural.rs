@@ -80,8 +80,12 @@ fn broken(b: &[u8]) -> bool {
         | (memory == (i.data_latency == 0))
 }
 
+fn wrong_length(body: &[u8]) -> bool {
+    body.len() % 10 != 0 || body.len() / 10 > 4096
+}
+
 fn refusal(body: &[u8]) -> u32 {
-    if body.len() % 10 != 0 || body.len() / 10 > 4096 {
+    if wrong_length(body) {
         return 10;
     }
     8 * body.chunks_exact(10).any(broken) as u32
@@ -95,10 +99,17 @@ pub fn check(body: &[u8]) -> Result<(), u32> {
 }
 
 fn settled_check(body: &[u8]) -> u32 {
-    match refusal(body) {
-        0 if body.chunks_exact(10).any(|b| b[1] & 2 != 0 || b[1] & 8 != 0) => 11,
-        n => n,
+    if wrong_length(body) {
+        return 10;
     }
+    let mut unknown = false;
+    for b in body.chunks_exact(10) {
+        if broken(b) {
+            return 8;
+        }
+        unknown |= b[1] & 2 != 0 || b[1] & 8 != 0;
+    }
+    11 * unknown as u32
 }
 
 #[derive(Clone, Copy, Default)]

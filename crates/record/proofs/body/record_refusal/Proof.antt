@@ -1,63 +1,35 @@
-use Rattle.record.proofs.Scan.{none-zero, none-more, scan-refused, scan-passed}
-use Rattle.record.specs.Body.{breaksAt, recordRefusal}
-use Rattle.record.specs.Layout.{recordSize}
-use Rattle.machine.specs.Test.{none}
-use lib.ListN.{length}
-use borrow.Author.Needs.{needs}
+-- `record_refusal` meets its contract: of "8, then 11" it is 8 just where a record breaks its rules.
+use Prim.Native.Nat.{ℕ}
+use mathlib.Core.Bool.{Bool, true, false}
+use mathlib.Core.Path.{_≡_, refl}
 use native.Mathlib.Omega.{arith}
-use mathlib.Core.Bool.{true}
-use mathlib.Core.Path.{_≡_, _∙_, sym, refl}
-use Prim.Native.Nat.{ℕ, _≤_, _-_, _/_}
+use borrow.Author.Needs.{needs}
+use Rattle.record.specs.Refusal.{_then_, _unless_, brokenRecord, unknownFlag}
+use Rattle.record.specs.Body.{recordRefusal, unknownRefusal}
 use Rattle.record.proofs.body.record_refusal.Statement.{statement}
 use Rattle.record.proofs.body.record_refusal.Tie as tie
-use Rattle.record.proofs.body.record_refusal.Reads as reads
-use Rattle.record.proofs.body.record_refusal.Lts as lts
-use Rattle.record.proofs.body.breaks_from.Reads as breaks-from-reads
 
-abbrev Inv-loop : tie.InvT-loop
-Inv-loop body records k₀ k = (k ≤ records) × (none (breaksAt body) k ≡ true)
+broken : (lawful known : Bool) {r : ℕ} → r ≡ (brokenRecord unless lawful then unknownFlag unless known) → r ≡ brokenRecord → brokenRecord ≡ (brokenRecord unless lawful)
+unfolding _unless_ _then_
+broken true true e z = omega (arith, e, z)
+broken true false e z = omega (arith, e, z)
+broken false known e z = refl
 
-abbrev μ-loop : tie.MeasureT-loop
-μ-loop body records k₀ k = records - k
+lawful : (lawful known : Bool) {r : ℕ} → r ≡ (brokenRecord unless lawful then unknownFlag unless known) → (r ≡ brokenRecord → ⊥) → 0 ≡ (brokenRecord unless lawful)
+unfolding _unless_ _then_
+lawful true known e h = refl
+lawful false known e h = absurd (h e)
 
-loop-holds : tie.Need-loop-holds Inv-loop μ-loop
-loop-holds c = (omega arith, none-zero _)
+known-refusal-requires : tie.Need-known-refusal-requires
+known-refusal-requires c κs = search needs
 
-mul-breaks-from : tie.Need-mul-breaks-from Inv-loop μ-loop
-mul-breaks-from c = search needs
+returns : tie.Need-returns
+unfolding recordRefusal unknownRefusal
+returns c = broken _ _ (c .before .known-refusal .ensures) (c .if1 .taken)
 
-breaks-from-requires : tie.Need-breaks-from-requires Inv-loop μ-loop
-breaks-from-requires c κs = search needs
-
-returns : tie.Need-returns Inv-loop μ-loop
-unfolding recordRefusal breaksAt
-returns c = scan-refused _ _ _ _ (omega arith) (sym (c .before .breaks-from .ensures) ∙ c .if1 .taken)
-
-add-k : tie.Need-add-k Inv-loop μ-loop
-add-k c = omega arith
-
-loop-less : tie.Need-loop-less Inv-loop μ-loop
-loop-less c = omega arith
-
-loop-again : tie.Need-loop-again Inv-loop μ-loop
-unfolding breaksAt
-loop-again c = (omega arith, none-more _ _ (c .before .before .before .loop .inv .1) (sym (c .before .breaks-from .ensures) ∙ c .if1 .left))
-
-returns-2 : tie.Need-returns-2 Inv-loop μ-loop
-unfolding recordRefusal
-returns-2 c = scan-passed _ _ _ _ (c .before .loop .inv .1) (omega arith) (omega arith)
+returns-2 : tie.Need-returns-2
+unfolding recordRefusal unknownRefusal
+returns-2 c = lawful _ _ (c .before .known-refusal .ensures) (c .if1 .left)
 
 pub record-refusal-spec : {M : Type 1} → statement M
-record-refusal-spec =
-    tie.close
-    (tie.spec
-    Inv-loop
-    μ-loop
-    loop-holds
-    mul-breaks-from
-    breaks-from-requires
-    returns
-    add-k
-    loop-less
-    loop-again
-    returns-2)
+record-refusal-spec = tie.close (tie.spec known-refusal-requires returns returns-2)

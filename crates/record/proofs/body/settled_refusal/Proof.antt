@@ -1,28 +1,26 @@
-use Rattle.record.proofs.Refusals.{stop, go-on}
-use Rattle.record.specs.Body.{settledRefusal}
-use borrow.Author.Needs.{needs}
+-- `settled_refusal` meets its contract: 10, and then "8, then 11" as one.
+use mathlib.Core.Path.{_∙_}
 use native.Mathlib.Omega.{arith}
+use borrow.Author.Needs.{needs}
+use Rattle.record.specs.Body.{bodyRefusal, settledRefusal}
+use Rattle.record.proofs.Refusals.{stop, go-on, then-joins}
 use Rattle.record.proofs.body.settled_refusal.Statement.{statement}
 use Rattle.record.proofs.body.settled_refusal.Tie as tie
-use Rattle.record.proofs.body.settled_refusal.Reads as reads
-use Rattle.record.proofs.body.settled_refusal.Lts as lts
-use Rattle.record.proofs.body.body_refusal.Reads as body-refusal-reads
-use Rattle.record.proofs.body.unknown_refusal.Reads as unknown-refusal-reads
 
-body-refusal-requires : tie.Need-body-refusal-requires
-body-refusal-requires c κs = search needs
+length-refusal-requires : tie.Need-length-refusal-requires
+length-refusal-requires c κs = search needs
 
 returns : tie.Need-returns
-unfolding settledRefusal
-returns c = stop _ (search needs) (omega arith)
+unfolding settledRefusal bodyRefusal
+returns c = stop _ (c .before .length-refusal .ensures) (c .if1 .taken) ∙ then-joins _ _ _
 
-unknown-refusal-requires : tie.Need-unknown-refusal-requires
-unknown-refusal-requires c κs = search needs
+known-refusal-requires : tie.Need-known-refusal-requires
+known-refusal-requires c κs = search needs
 
 returns-2 : tie.Need-returns-2
-unfolding settledRefusal
-returns-2 c = go-on (c .before .before .body-refusal .ensures) (omega arith) (c .unknown-refusal .ensures)
+unfolding settledRefusal bodyRefusal
+returns-2 c = go-on (c .before .before .length-refusal .ensures) (omega arith) (c .known-refusal .ensures) ∙ then-joins _ _ _
 
 pub settled-refusal-spec : {M : Type 1} → statement M
 settled-refusal-spec =
-    tie.close (tie.spec body-refusal-requires returns unknown-refusal-requires returns-2)
+    tie.close (tie.spec length-refusal-requires returns known-refusal-requires returns-2)
