@@ -9,7 +9,7 @@ use Rattle.machine.specs.Instruction.{Kind, plain, load, store, branch, 
 use Rattle.machine.specs.Rules.{isLoad, isStore, hits, misses, entry, reads, missesData}
 use Rattle.machine.proofs.Numbers.{sum}
 use Rattle.machine.proofs.Schedule.{Behaviour}
-use Rattle.machine.proofs.Levels.{stageAt}
+use Rattle.machine.proofs.Levels.{stageAlong}
 
 -- the level that an older instruction of a kind must have reached: before a fetch that hits or not,
 unfoldable pub waitsInPre : Kind → Bool → ℕ
@@ -80,10 +80,10 @@ waits-reach (suc (suc (suc (suc s)))) i older = omega arith
 
 -- the entry count of an instruction at a level
 abbrev pub countAt : Instruction → ℕ → ℕ
-countAt i s = entry i (stageAt (isStore (i .kind)) s)
+countAt i s = entry i (stageAlong (isStore (i .kind)) s)
 
 -- at level 5 it is a store's
-pub last-count : (i : Instruction) (lane : Bool) → entry i (stageAt lane 5) ≡ cond lane (cond (misses (i .access)) (i .dataLatency - 1) 0) 0
+pub last-count : (i : Instruction) (lane : Bool) → entry i (stageAlong lane 5) ≡ cond lane (cond (misses (i .access)) (i .dataLatency - 1) 0) 0
 unfolding entry
 last-count i true = refl
 last-count i false = refl

@@ -10,16 +10,16 @@ use Rattle.machine.proofs.Stages.{same-stage, stage-same, stages-differ
 use Rattle.machine.proofs.Schedule.{Behaviour, shares, Together, early, late, together, shares-early, shares-last}
 
 -- the stage of an instruction at a level; ST is the last one of a store's lane
-abbrev pub stageAt : Bool → ℕ → Stage
-stageAt lane zero = pre
-stageAt lane (suc zero) = IF
-stageAt lane (suc (suc zero)) = ID
-stageAt lane (suc (suc (suc zero))) = EX
-stageAt lane (suc (suc (suc (suc zero)))) = MEM
-stageAt lane (suc (suc (suc (suc (suc zero))))) = cond lane ST WB
-stageAt lane (suc (suc (suc (suc (suc (suc s)))))) = post
+abbrev pub stageAlong : Bool → ℕ → Stage
+stageAlong lane zero = pre
+stageAlong lane (suc zero) = IF
+stageAlong lane (suc (suc zero)) = ID
+stageAlong lane (suc (suc (suc zero))) = EX
+stageAlong lane (suc (suc (suc (suc zero)))) = MEM
+stageAlong lane (suc (suc (suc (suc (suc zero))))) = cond lane ST WB
+stageAlong lane (suc (suc (suc (suc (suc (suc s)))))) = post
 
-pub rank-stage : (lane : Bool) (s : ℕ) → s ≤ 6 → rank (stageAt lane s) ≡ s
+pub rank-stage : (lane : Bool) (s : ℕ) → s ≤ 6 → rank (stageAlong lane s) ≡ s
 rank-stage lane zero l = refl
 rank-stage lane (suc zero) l = refl
 rank-stage lane (suc (suc zero)) l = refl
@@ -30,7 +30,7 @@ rank-stage false (suc (suc (suc (suc (suc zero))))) l = refl
 rank-stage lane (suc (suc (suc (suc (suc (suc s)))))) l = omega arith
 
 -- before level 5 the lanes do not matter
-stage-early : (a c : Bool) (s : ℕ) → s < 5 → stageAt a s ≡ stageAt c s
+stage-early : (a c : Bool) (s : ℕ) → s < 5 → stageAlong a s ≡ stageAlong c s
 stage-early a c zero l = refl
 stage-early a c (suc zero) l = refl
 stage-early a c (suc (suc zero)) l = refl
@@ -49,38 +49,38 @@ isST ST = true
 isST WB = false
 isST post = false
 
-lane-of : (lane : Bool) → isST (stageAt lane 5) ≡ lane
+lane-of : (lane : Bool) → isST (stageAlong lane 5) ≡ lane
 unfolding isST
 lane-of true = refl
 lane-of false = refl
 
-pub same-level : (a c : Bool) (s u : ℕ) → s ≤ 6 → u ≤ 6 → same (stageAt a s) (stageAt c u) ≡ true → s ≡ u
-same-level a c s u l m e = sym (rank-stage a s l) ∙ ap rank (same-stage (stageAt a s) (stageAt c u) e) ∙ rank-stage c u m
+pub same-level : (a c : Bool) (s u : ℕ) → s ≤ 6 → u ≤ 6 → same (stageAlong a s) (stageAlong c u) ≡ true → s ≡ u
+same-level a c s u l m e = sym (rank-stage a s l) ∙ ap rank (same-stage (stageAlong a s) (stageAlong c u) e) ∙ rank-stage c u m
 
-pub other-level : (a c : Bool) (s u : ℕ) → s ≤ 6 → u ≤ 6 → ¬ (s ≡ u) → same (stageAt a s) (stageAt c u) ≡ false
+pub other-level : (a c : Bool) (s u : ℕ) → s ≤ 6 → u ≤ 6 → ¬ (s ≡ u) → same (stageAlong a s) (stageAlong c u) ≡ false
 other-level a c s u l m h =
-    stages-differ (stageAt a s) (stageAt c u) (λ e. h (same-level a c s u l m (stage-same (stageAt a s) (stageAt c u) e)))
+    stages-differ (stageAlong a s) (stageAlong c u) (λ e. h (same-level a c s u l m (stage-same (stageAlong a s) (stageAlong c u) e)))
 
 -- a stage between pre and post is the same for two instructions exactly where they share it
-pub shares-same : (b : Behaviour) (i j s : ℕ) → shares b i j s ≡ true → same (stageAt (b .lane j) s) (stageAt (b .lane i) s) ≡ true
+pub shares-same : (b : Behaviour) (i j s : ℕ) → shares b i j s ≡ true → same (stageAlong (b .lane j) s) (stageAlong (b .lane i) s) ≡ true
 shares-same b i j s e = pick (together b i j s e)
   where
-    pick : Together b i j s → same (stageAt (b .lane j) s) (stageAt (b .lane i) s) ≡ true
-    pick (early l) = stage-same (stageAt (b .lane j) s) (stageAt (b .lane i) s) (stage-early (b .lane j) (b .lane i) s l)
-    pick (late e f) = stage-same (stageAt (b .lane j) s) (stageAt (b .lane i) s) (ap (λ (x : Bool). stageAt x s) f)
+    pick : Together b i j s → same (stageAlong (b .lane j) s) (stageAlong (b .lane i) s) ≡ true
+    pick (early l) = stage-same (stageAlong (b .lane j) s) (stageAlong (b .lane i) s) (stage-early (b .lane j) (b .lane i) s l)
+    pick (late e f) = stage-same (stageAlong (b .lane j) s) (stageAlong (b .lane i) s) (ap (λ (x : Bool). stageAlong x s) f)
 
-pub same-shares : (b : Behaviour) (i j s : ℕ) → s ≤ 5 → same (stageAt (b .lane j) s) (stageAt (b .lane i) s) ≡ true → shares b i j s ≡ true
+pub same-shares : (b : Behaviour) (i j s : ℕ) → s ≤ 5 → same (stageAlong (b .lane j) s) (stageAlong (b .lane i) s) ≡ true → shares b i j s ≡ true
 same-shares b i j s l e = pick (last s 5 (omega arith))
   where
     pick : Last s 5 → shares b i j s ≡ true
     pick (before m) = shares-early b i j s m
     pick (at f) =
-        let g : stageAt (b .lane j) s ≡ stageAt (b .lane i) s = same-stage (stageAt (b .lane j) s) (stageAt (b .lane i) s) e in
-        let g5 : stageAt (b .lane j) 5 ≡ stageAt (b .lane i) 5 = subst (λ (x : ℕ). stageAt (b .lane j) x ≡ stageAt (b .lane i) x) f g in
+        let g : stageAlong (b .lane j) s ≡ stageAlong (b .lane i) s = same-stage (stageAlong (b .lane j) s) (stageAlong (b .lane i) s) e in
+        let g5 : stageAlong (b .lane j) 5 ≡ stageAlong (b .lane i) 5 = subst (λ (x : ℕ). stageAlong (b .lane j) x ≡ stageAlong (b .lane i) x) f g in
         subst (λ (x : ℕ). shares b i j x ≡ true) (sym f) (shares-last b i j (sym (lane-of (b .lane j)) ∙ ap isST g5 ∙ lane-of (b .lane i)))
 
 -- the way to the next level
-pub next-stage : (kind : Kind) (s : ℕ) → s < 6 → next kind (stageAt (isStore kind) s) ≡ stageAt (isStore kind) (suc s)
+pub next-stage : (kind : Kind) (s : ℕ) → s < 6 → next kind (stageAlong (isStore kind) s) ≡ stageAlong (isStore kind) (suc s)
 unfolding next
 next-stage kind zero l = refl
 next-stage kind (suc zero) l = refl

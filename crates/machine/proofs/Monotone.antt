@@ -11,7 +11,7 @@ use Rattle.machine.specs.Rules.{rank, same, further}
 use Rattle.machine.proofs.Numbers.{Tri, less, equal, more, tri, Last, before, at, last, by-age}
 use Rattle.machine.proofs.Connectives.{Value, passed, failed, value, and-failed-l, and-failed-r, or-failed}
 use Rattle.machine.proofs.Schedule.{Behaviour, shares, enters, done, starts, own, share, wait, least}
-use Rattle.machine.proofs.Levels.{stageAt, rank-stage, same-level}
+use Rattle.machine.proofs.Levels.{stageAlong, rank-stage, same-level}
 use Rattle.machine.proofs.Standing.{enters-before, Stands, stands, standing, scheduled, not-yet}
 
 pub record SlowerBehaviour (a b : Behaviour) : Type 0 where
@@ -59,9 +59,9 @@ further-level : {a b : Behaviour} {t i s u : ℕ} → SlowerBehaviour a b → St
 unfolding further standing
 further-level {a} {b} {t} {i} {s} {u} h sa sb =
     or-failed _ _
-    (le-ltb (rank (stageAt (a .lane i) s)) (rank (stageAt (b .lane i) u))
+    (le-ltb (rank (stageAlong (a .lane i) s)) (rank (stageAlong (b .lane i) u))
     (let p = rank-stage (a .lane i) s (sa .level) in let q = rank-stage (b .lane i) u (sb .level) in let r = order (tri s u) in omega arith))
-    (pick (value (same (stageAt (b .lane i) u) (stageAt (a .lane i) s))))
+    (pick (value (same (stageAlong (b .lane i) u) (stageAlong (a .lane i) s))))
   where
     order : Tri s u → u ≤ s
     order (less k) = let p = not-yet sa u k (sb .level) in let q = sb .entered in let r = enters-later a b h i u in omega arith
@@ -71,8 +71,8 @@ further-level {a} {b} {t} {i} {s} {u} h sa sb =
     same-count : a .count i s - (t - enters a i s) ≤ b .count i s - (t - enters b i s)
     same-count = let p = enters-later a b h i s in let q = h .count i s in omega arith
 
-    pick : Value (same (stageAt (b .lane i) u) (stageAt (a .lane i) s)) →
-        same (stageAt (b .lane i) u) (stageAt (a .lane i) s) and ltb (b .count i u - (t - enters b i u)) (a .count i s - (t - enters a i s)) ≡ false
+    pick : Value (same (stageAlong (b .lane i) u) (stageAlong (a .lane i) s)) →
+        same (stageAlong (b .lane i) u) (stageAlong (a .lane i) s) and ltb (b .count i u - (t - enters b i u)) (a .count i s - (t - enters a i s)) ≡ false
     pick (failed e) = and-failed-l _ _ e
     pick (passed e) =
         let z = same-level (b .lane i) (a .lane i) u s (sb .level) (sa .level) e in

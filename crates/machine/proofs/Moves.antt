@@ -13,7 +13,7 @@ use Rattle.machine.proofs.Numbers.{Tri, less, equal, more, tri}
 use Rattle.machine.proofs.Connectives.{Value, passed, failed, value, clash, not-passes, and-both, and-l, and-r, or-l, or-r, or-else, every-at, every-below}
 use Rattle.machine.proofs.Stages.{stage-same}
 use Rattle.machine.proofs.Schedule.{Behaviour, shares, Together, early, late, together, shares-early, shares-sym, enters, done, own, share, wait, least}
-use Rattle.machine.proofs.Levels.{stageAt, same-level, other-level, next-stage, shares-same, same-shares}
+use Rattle.machine.proofs.Levels.{stageAlong, same-level, other-level, next-stage, shares-same, same-shares}
 use Rattle.machine.proofs.Standing.{Stands, stands, levelAt, standing, scheduled, scheduled-at, already, not-yet}
 use Rattle.machine.proofs.Derivation.{behaviour}
 use Rattle.machine.proofs.Readiness.{ready-waits, ready-leaves-pre, waits-ready}
@@ -33,7 +33,7 @@ module _ (trace : Trace) where
   b = behaviour trace
 
   module _ (t : ℕ) (places : Places) (described : (j : ℕ) → j < length trace → places j ≡ scheduled b t j) where
-    pub stage-of : {i s : ℕ} → i < length trace → Stands b t i s → places i .stage ≡ stageAt (b .lane i) s
+    pub stage-of : {i s : ℕ} → i < length trace → Stands b t i s → places i .stage ≡ stageAlong (b .lane i) s
     unfolding standing
     stage-of {i} {s} l st = ap (λ (p : Place). p .stage) (described i l ∙ scheduled-at st)
 
@@ -41,7 +41,7 @@ module _ (trace : Trace) where
     unfolding standing
     count-of {i} {s} l st = ap (λ (p : Place). p .count) (described i l ∙ scheduled-at st)
 
-    pub next-of : {i s : ℕ} → i < length trace → s < 6 → Stands b t i s → next (instruction trace i .kind) (places i .stage) ≡ stageAt (b .lane i) (suc s)
+    pub next-of : {i s : ℕ} → i < length trace → s < 6 → Stands b t i s → next (instruction trace i .kind) (places i .stage) ≡ stageAlong (b .lane i) (suc s)
     unfolding behaviour
     next-of {i} {s} l m st = ap (next (instruction trace i .kind)) (stage-of l st) ∙ next-stage (instruction trace i .kind) s m
 
@@ -55,18 +55,18 @@ module _ (trace : Trace) where
 
     -- a stage before post that will be free has no occupant that stays
     free-moves : (k s j : ℕ) (lane : Bool) → s < 6 → j < length trace →
-        willBeFreeWithin (suc k) trace places (stageAt lane s) ≡ true →
-        same (places j .stage) (stageAt lane s) ≡ true →
+        willBeFreeWithin (suc k) trace places (stageAlong lane s) ≡ true →
+        same (places j .stage) (stageAlong lane s) ≡ true →
         movesWithin k trace places j ≡ true
     unfolding willBeFreeWithin
     free-moves k s j lane m l free e =
         let busy = other-level lane true s 6 (omega arith) (omega arith) (omega arith) in
         or-else _ _
-        (every-at (λ j. not (same (places j .stage) (stageAt lane s)) or movesWithin k trace places j) (length trace) (or-else _ _ free busy) j l)
+        (every-at (λ j. not (same (places j .stage) (stageAlong lane s)) or movesWithin k trace places j) (length trace) (or-else _ _ free busy) j l)
         (ap not e)
 
     share-enters : (k i s j : ℕ) → i < length trace → Stands b t i s → s < 6 →
-        willBeFreeWithin (suc k) trace places (stageAt (b .lane i) (suc s)) ≡ true →
+        willBeFreeWithin (suc k) trace places (stageAlong (b .lane i) (suc s)) ≡ true →
         (s ≡ 0 → enters b j 1 ≤ t) →
         (Stands b t j (suc s) → movesWithin k trace places j ≡ true → enters b j (suc (suc s)) ≤ suc t) →
         j < i →
@@ -100,9 +100,9 @@ module _ (trace : Trace) where
     moves-enters zero i s l st e m = clash m refl
     moves-enters (suc d) i s l st e m =
         let still = eqb-true (places i .count) 0 (and-l _ _ (and-l _ _ m)) in
-        let go : readyIn (stageAt (b .lane i) s) trace places i ≡ true =
+        let go : readyIn (stageAlong (b .lane i) s) trace places i ≡ true =
         subst (λ (x : Stage). readyIn x trace places i ≡ true) (stage-of l st) (and-r _ _ (and-l _ _ m)) in
-        let free : willBeFreeWithin (suc (double d)) trace places (stageAt (b .lane i) (suc s)) ≡ true =
+        let free : willBeFreeWithin (suc (double d)) trace places (stageAlong (b .lane i) (suc s)) ≡ true =
         subst (λ (x : Stage). willBeFreeWithin (suc (double d)) trace places x ≡ true) (next-of l (omega arith) st) (and-r _ _ m) in
         least b i s (suc t)
         (let c = count-of l st in let h = st .entered in omega arith)
@@ -114,7 +114,7 @@ module _ (trace : Trace) where
     -- what moving needs
     can-move : (k i s : ℕ) → i < length trace → Stands b t i s → s < 6 →
         enters b i (suc s) ≤ suc t →
-        willBeFreeWithin k trace places (stageAt (b .lane i) (suc s)) ≡ true →
+        willBeFreeWithin k trace places (stageAlong (b .lane i) (suc s)) ≡ true →
         movesWithin (suc k) trace places i ≡ true
     unfolding movesWithin ready done
     can-move k i s l st m en free =
@@ -137,10 +137,10 @@ module _ (trace : Trace) where
     will-be-free : (k i s : ℕ) → i < length trace → Stands b t i s → s < 5 →
         enters b i (suc s) ≤ suc t →
         ((j : ℕ) → j < length trace → Stands b t j (suc s) → enters b j (suc (suc s)) ≤ suc t → movesWithin k trace places j ≡ true) →
-        willBeFreeWithin (suc k) trace places (stageAt (b .lane i) (suc s)) ≡ true
+        willBeFreeWithin (suc k) trace places (stageAlong (b .lane i) (suc s)) ≡ true
     unfolding willBeFreeWithin done
     will-be-free k i s l st m en ih =
-        or-r _ _ (every-below _ (length trace) (λ j h. pick j h (value (same (places j .stage) (stageAt (b .lane i) (suc s))))))
+        or-r _ _ (every-below _ (length trace) (λ j h. pick j h (value (same (places j .stage) (stageAlong (b .lane i) (suc s))))))
       where
         occupant : (j : ℕ) → Stands b t j (suc s) → shares b i j (suc s) ≡ true → Tri j i → enters b j (suc (suc s)) ≤ suc t
         occupant j sj sh (less h) = let p = share b i j s h sh in omega arith
@@ -155,27 +155,27 @@ module _ (trace : Trace) where
             let z = st .stays (omega arith) in
             omega arith
 
-        there : (j : ℕ) → j < length trace → same (stageAt (b .lane j) (suc s)) (stageAt (b .lane i) (suc s)) ≡ true → Stands b t j (suc s) →
+        there : (j : ℕ) → j < length trace → same (stageAlong (b .lane j) (suc s)) (stageAlong (b .lane i) (suc s)) ≡ true → Stands b t j (suc s) →
             movesWithin k trace places j ≡ true
         there j h e sj = ih j h sj (occupant j sj (same-shares b i j (suc s) m e) (tri j i))
 
-        pick : (j : ℕ) → j < length trace → Value (same (places j .stage) (stageAt (b .lane i) (suc s))) →
-            not (same (places j .stage) (stageAt (b .lane i) (suc s))) or movesWithin k trace places j ≡ true
+        pick : (j : ℕ) → j < length trace → Value (same (places j .stage) (stageAlong (b .lane i) (suc s))) →
+            not (same (places j .stage) (stageAlong (b .lane i) (suc s))) or movesWithin k trace places j ≡ true
         pick j h (failed e) = or-l _ _ (not-passes _ e)
         pick j h (passed e) =
             let sj = stands b t j in
-            let f : same (stageAt (b .lane j) (levelAt (enters b j) t)) (stageAt (b .lane i) (suc s)) ≡ true =
-            subst (λ (x : Stage). same x (stageAt (b .lane i) (suc s)) ≡ true) (stage-of h sj) e in
+            let f : same (stageAlong (b .lane j) (levelAt (enters b j) t)) (stageAlong (b .lane i) (suc s)) ≡ true =
+            subst (λ (x : Stage). same x (stageAlong (b .lane i) (suc s)) ≡ true) (stage-of h sj) e in
             let z = same-level (b .lane j) (b .lane i) _ (suc s) (sj .level) (omega arith) f in
             or-r _ _
             (there j h
-            (subst (λ (x : ℕ). same (stageAt (b .lane j) x) (stageAt (b .lane i) (suc s)) ≡ true) z f)
+            (subst (λ (x : ℕ). same (stageAlong (b .lane j) x) (stageAlong (b .lane i) (suc s)) ≡ true) z f)
             (subst (Stands b t j) z sj))
 
-    post-free : (i s : ℕ) → s ≡ 5 → willBeFreeWithin 1 trace places (stageAt (b .lane i) (suc s)) ≡ true
+    post-free : (i s : ℕ) → s ≡ 5 → willBeFreeWithin 1 trace places (stageAlong (b .lane i) (suc s)) ≡ true
     unfolding willBeFreeWithin
     post-free i s e =
-        or-l _ _ (subst (λ (x : ℕ). same (stageAt (b .lane i) (suc x)) post ≡ true) (sym e) (stage-same post post refl))
+        or-l _ _ (subst (λ (x : ℕ). same (stageAlong (b .lane i) (suc x)) post ≡ true) (sym e) (stage-same post post refl))
 
     pub enters-moves : (d i s : ℕ) → i < length trace → Stands b t i s → s + suc d ≡ 6 →
         enters b i (suc s) ≤ suc t →

@@ -11,7 +11,7 @@ use Rattle.machine.specs.Instruction.{Kind, plain, load, store, branch, 
 use Rattle.machine.specs.Rules.{pre, EX, MEM, ST, same, Place, Places, shortOf, isLoad, isStore, isBranch, hits, noOlder, reads, missesData, readyIn}
 use Rattle.machine.proofs.Connectives.{Value, passed, failed, value, and-true, and-false, and-failed-l, or-failed-l, or-failed-r, or-false, or-failed, none-at, none-below, none-same, none-false, none-either, none-unless, not-or-none}
 use Rattle.machine.proofs.Schedule.{Behaviour, enters, done}
-use Rattle.machine.proofs.Levels.{stageAt}
+use Rattle.machine.proofs.Levels.{stageAlong}
 use Rattle.machine.proofs.Standing.{scheduled, isShort, short-of, in-pre, never-short}
 use Rattle.machine.proofs.Derivation.{waitsInPre, waitsInID, waitsInEX, waits, behaviour}
 
@@ -35,7 +35,7 @@ gather : (h : Bool) (a c l s : ℕ → Bool) (n : ℕ) →
 gather h a c l s n = rw (none-either a c n, none-either l s n, none-unless h (λ k. l k or s k) n) (none-either (λ k. a k or c k) (λ k. not h and (l k or s k)) n)
 
 ready-held : (lane : Bool) (s : ℕ) (trace : Trace) (places : Places) (i : ℕ) →
-    readyIn (stageAt lane s) trace places i ≡ none (λ j. held s (instruction trace i) (instruction trace j) (places j)) i
+    readyIn (stageAlong lane s) trace places i ≡ none (λ j. held s (instruction trace i) (instruction trace j) (places j)) i
 unfolding readyIn noOlder held
 ready-held lane zero trace places i =
     gather (hits (instruction trace i .fetch))
@@ -122,7 +122,7 @@ module _ (trace : Trace) where
       pick : Value (isStore (kind j)) → isStore (kind j) and shortOf (scheduled b t j) ST 0 ≡ isStore (kind j) and isShort b t j 5
       pick (passed e) =
           ap (λ (x : Bool). isStore (kind j) and x)
-          (subst (λ (x : Bool). shortOf (scheduled b t j) (stageAt x 5) 0 ≡ isShort b t j 5) e (short-of b t j 5 (omega arith)))
+          (subst (λ (x : Bool). shortOf (scheduled b t j) (stageAlong x 5) 0 ≡ isShort b t j 5) e (short-of b t j 5 (omega arith)))
       pick (failed e) = rw e (and-failed-l _ _ refl ∙ sym (and-failed-l _ _ refl))
 
   held-short : (t j s : ℕ) (i : Instruction) →
@@ -143,29 +143,29 @@ module _ (trace : Trace) where
   behind t i s j = inPre s (ltb t (enters b j 1)) or isShort b t j (b .until i s j)
 
   module _ (t : ℕ) (places : Places) (i s : ℕ) (described : (j : ℕ) → j < i → places j ≡ scheduled b t j) where
-    ready-schedule : readyIn (stageAt (b .lane i) s) trace places i ≡ none (behind t i s) i
+    ready-schedule : readyIn (stageAlong (b .lane i) s) trace places i ≡ none (behind t i s) i
     unfolding behind behaviour
     ready-schedule =
         ready-held (b .lane i) s trace places i
         ∙ none-same _ _ i (λ j l. ap (held s (instruction trace i) (instruction trace j)) (described j l) ∙ held-short t j s (instruction trace i))
 
-    not-behind : readyIn (stageAt (b .lane i) s) trace places i ≡ true → (j : ℕ) → j < i → behind t i s j ≡ false
+    not-behind : readyIn (stageAlong (b .lane i) s) trace places i ≡ true → (j : ℕ) → j < i → behind t i s j ≡ false
     not-behind e = none-at (behind t i s) i (sym ready-schedule ∙ e)
 
-    pub ready-waits : readyIn (stageAt (b .lane i) s) trace places i ≡ true → (j : ℕ) → j < i → done b j (b .until i s j) ≤ suc t
+    pub ready-waits : readyIn (stageAlong (b .lane i) s) trace places i ≡ true → (j : ℕ) → j < i → done b j (b .until i s j) ≤ suc t
     unfolding behind isShort done
     ready-waits e j l =
         let p = ltb-false t (enters b j (b .until i s j) + b .count j (b .until i s j)) (or-failed-r _ _ (not-behind e j l)) in
         omega arith
 
-    pub ready-leaves-pre : readyIn (stageAt (b .lane i) s) trace places i ≡ true → s ≡ 0 → (j : ℕ) → j < i → enters b j 1 ≤ t
+    pub ready-leaves-pre : readyIn (stageAlong (b .lane i) s) trace places i ≡ true → s ≡ 0 → (j : ℕ) → j < i → enters b j 1 ≤ t
     unfolding behind
     ready-leaves-pre e z j l = ltb-false t (enters b j 1) (fails-first s (ltb t (enters b j 1)) (or-failed-l _ _ (not-behind e j l)) z)
 
     pub waits-ready :
         ((j : ℕ) → j < i → done b j (b .until i s j) ≤ suc t) →
         ((j : ℕ) → j < i → s ≡ 0 → enters b j 1 ≤ t) →
-        readyIn (stageAt (b .lane i) s) trace places i ≡ true
+        readyIn (stageAlong (b .lane i) s) trace places i ≡ true
     unfolding behind isShort done
     waits-ready waited first = ready-schedule ∙ none-below (behind t i s) i clear
       where

@@ -12,7 +12,7 @@ use Rattle.machine.proofs.Numbers.{Tri, less, equal, more, tri, Last, b
 use Rattle.machine.proofs.Connectives.{Value, passed, failed, value, and-failed-l, or-l, or-failed, or-left, and-left}
 use Rattle.machine.proofs.Stages.{stage-same}
 use Rattle.machine.proofs.Schedule.{Behaviour, enters, done, starts, own}
-use Rattle.machine.proofs.Levels.{stageAt, rank-stage, other-level}
+use Rattle.machine.proofs.Levels.{stageAlong, rank-stage, other-level}
 
 -- Times rise with the level.
 pub enters-before : (b : Behaviour) (i s u : ℕ) → s < u → done b i s ≤ enters b i u
@@ -40,7 +40,7 @@ levelAt times t = levelUpTo times t 6
 
 -- the place of an instruction at level s after t cycles
 unfoldable pub standing : Behaviour → ℕ → ℕ → ℕ → Place
-standing b t i s = record { stage = stageAt (b .lane i) s; count = b .count i s - (t - enters b i s) }
+standing b t i s = record { stage = stageAlong (b .lane i) s; count = b .count i s - (t - enters b i s) }
 
 record UpTo (times : ℕ → ℕ) (t s l : ℕ) : Type 0 where
   level : l ≤ s
@@ -107,7 +107,7 @@ left t e c l = pick (value (ltb t (e + c)))
     pick (passed p) = let q = ltb-true t (e + c) p in lt-ltb 0 (c - (t - e)) (omega arith) ∙ sym p
     pick (failed p) = let q = ltb-false t (e + c) p in le-ltb 0 (c - (t - e)) (omega arith) ∙ sym p
 
-short-of-level : {b : Behaviour} {t j l : ℕ} → Stands b t j l → (h : ℕ) → h ≤ 6 → shortOf (standing b t j l) (stageAt (b .lane j) h) 0 ≡ isShort b t j h
+short-of-level : {b : Behaviour} {t j l : ℕ} → Stands b t j l → (h : ℕ) → h ≤ 6 → shortOf (standing b t j l) (stageAlong (b .lane j) h) 0 ≡ isShort b t j h
 unfolding shortOf further standing isShort done
 short-of-level {b} {t} {j} {l} st h m = pick (tri l h)
   where
@@ -115,19 +115,19 @@ short-of-level {b} {t} {j} {l} st h m = pick (tri l h)
     lane = b .lane j
 
     before-h : Bool
-    before-h = ltb (rank (stageAt lane l)) (rank (stageAt lane h))
+    before-h = ltb (rank (stageAlong lane l)) (rank (stageAlong lane h))
 
     order : before-h ≡ ltb l h
     order = rw (rank-stage lane l (st .level), rank-stage lane h m)
 
-    pick : Tri l h → before-h or (same (stageAt lane h) (stageAt lane l) and ltb 0 (b .count j l - (t - enters b j l))) ≡ ltb t (enters b j h + b .count j h)
+    pick : Tri l h → before-h or (same (stageAlong lane h) (stageAlong lane l) and ltb 0 (b .count j l - (t - enters b j l))) ≡ ltb t (enters b j h + b .count j h)
     pick (less k) =
         or-l before-h _ (order ∙ lt-ltb l h k)
         ∙ sym (lt-ltb t (enters b j h + b .count j h) (let p = not-yet st h k m in omega arith))
     pick (equal e) =
-        subst (λ (x : ℕ). shortOf (standing b t j l) (stageAt lane x) 0 ≡ isShort b t j x) e
-        (or-left _ _ (le-ltb (rank (stageAt lane l)) (rank (stageAt lane l)) (omega arith))
-        ∙ and-left _ _ (stage-same (stageAt lane l) (stageAt lane l) refl)
+        subst (λ (x : ℕ). shortOf (standing b t j l) (stageAlong lane x) 0 ≡ isShort b t j x) e
+        (or-left _ _ (le-ltb (rank (stageAlong lane l)) (rank (stageAlong lane l)) (omega arith))
+        ∙ and-left _ _ (stage-same (stageAlong lane l) (stageAlong lane l) refl)
         ∙ left t (enters b j l) (b .count j l) (st .entered))
     pick (more k) =
         or-failed before-h _ (order ∙ le-ltb l h (omega arith)) (and-failed-l _ _ (other-level lane lane h l m (st .level) (omega arith)))
@@ -144,12 +144,12 @@ in-post-level : {b : Behaviour} {t j l : ℕ} → Stands b t j l → same (stand
 unfolding standing
 in-post-level {b} {t} {j} {l} st = pick (last l 6 (let h = st .level in omega arith))
   where
-    pick : Last l 6 → same (stageAt (b .lane j) l) post ≡ leb (enters b j 6) t
+    pick : Last l 6 → same (stageAlong (b .lane j) l) post ≡ leb (enters b j 6) t
     pick (before m) =
         other-level (b .lane j) true l 6 (st .level) (omega arith) (omega arith)
         ∙ sym (lt-leb (enters b j 6) t (not-yet st 6 m (omega arith)))
     pick (at e) =
-        stage-same (stageAt (b .lane j) l) post (ap (stageAt (b .lane j)) e) ∙ sym (le-leb (enters b j 6) t (already st 6 (omega arith)))
+        stage-same (stageAlong (b .lane j) l) post (ap (stageAlong (b .lane j)) e) ∙ sym (le-leb (enters b j 6) t (already st 6 (omega arith)))
 
 -- where the schedule has instruction j stand
 unfoldable pub scheduled : Behaviour → ℕ → Places
@@ -159,7 +159,7 @@ pub scheduled-at : {b : Behaviour} {t i s : ℕ} → Stands b t i s → schedule
 unfolding scheduled
 scheduled-at {b} {t} {i} {s} st = ap (standing b t i) (stands-once (stands b t i) st)
 
-pub short-of : (b : Behaviour) (t j h : ℕ) → h ≤ 6 → shortOf (scheduled b t j) (stageAt (b .lane j) h) 0 ≡ isShort b t j h
+pub short-of : (b : Behaviour) (t j h : ℕ) → h ≤ 6 → shortOf (scheduled b t j) (stageAlong (b .lane j) h) 0 ≡ isShort b t j h
 unfolding scheduled
 short-of b t j h l = short-of-level (stands b t j) h l
 

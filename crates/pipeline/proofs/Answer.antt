@@ -13,11 +13,16 @@ use Rattle.machine.specs.declared.State.{State}
 use Rattle.machine.proofs.Orderly.{orderly-is-tested}
 use Rattle.record.specs.Refusal.{_then_, _unless_}
 use Rattle.record.specs.Body.{Bytes, traceOf, lengthRefusal, bodyRefusal, settledRefusal}
+use Rattle.record.proofs.Accepted.{lawful-length, settled-accepted}
 use Rattle.record.proofs.Refusals.{then-some, go-on, last-passes}
 use Rattle.schedule.proofs.Settled.{settled-already}
 use Rattle.pipeline.specs.Step.{notOrderly, stepRefusal, onward, stepAnswer, worstRefusal, stepAs}
-use Rattle.pipeline.proofs.Lengths.{accepted-length}
 use Rattle.pipeline.specs.declared.stepping.Stepped.{Stepped}
+
+-- where the body is not refused, its length is lawful
+pub faultless-length : (body : List ℕ) (lawful : Bool) → cond lawful (lengthRefusal body) (settledRefusal body) ≡ 0 → lengthRefusal body ≡ 0
+faultless-length body true e = e
+faultless-length body false e = lawful-length body (settled-accepted body e)
 
 module _ (trace : Trace) (s : State) where
   pub refused : {r q : ℕ} → r ≡ q → (r ≡ 0 → ⊥) → _≡_ {A = Stepped} (record { refusal = r; state = s }) (onward q trace s)
@@ -67,4 +72,4 @@ module _ (body : List ℕ) (s : State) where
   worst-accepted e o =
       let t = orderly-is-tested (settle miss (traceOf body)) s .0 o in
       ap (λ (r : Stepped). r .state)
-      (sym (stepped (settle miss (traceOf body)) s (go-on refl (accepted-length body e) (last-passes notOrderly t)) refl))
+      (sym (stepped (settle miss (traceOf body)) s (go-on refl (lawful-length body e) (last-passes notOrderly t)) refl))

@@ -5,5 +5,4 @@ pub mod Entry
 pub mod Going
 pub mod Slots
 pub mod Starts
-pub mod Lengths
 pub mod Answer

@@ -19,6 +19,18 @@ and-true : (a b : Bool) → (a && b) ≡ true → (a ≡ true) × (b ≡ true)
 and-true true b e = (refl, e)
 and-true false b e = (e, cc)
 
+-- a lawful length alone
+module _ (body : List ℕ) (lawful : lengthRefusal body ≡ 0) where
+  lengths : (eqb (length body % recordSize) 0 ≡ true) × (leb (records body) 4096 ≡ true)
+  unfolding lengthRefusal
+  lengths = and-true _ _ (unless-passed _ _ lawful)
+
+  pub few-by-length : records body ≤ 4096
+  few-by-length = leb-true _ _ (lengths .1)
+
+  pub whole-by-length : length body ≡ records body * recordSize
+  whole-by-length = let rest = eqb-true (length body % recordSize) 0 (lengths .0) in omega arith
+
 module _ (body : List ℕ) where
   -- what it takes to be accepted, and below what it gives
   pub accepted-of
@@ -40,15 +52,14 @@ module _ (body : List ℕ) where
     unfolding bodyRefusal
     parts = (then-first _ _ accepted, then-second _ _ accepted)
 
-    lengths : (eqb (length body % recordSize) 0 ≡ true) × (leb (records body) 4096 ≡ true)
-    unfolding lengthRefusal
-    lengths = and-true _ _ (unless-passed _ _ (parts .0))
+    pub lawful-length : lengthRefusal body ≡ 0
+    lawful-length = parts .0
 
     pub few-records : records body ≤ 4096
-    few-records = leb-true _ _ (lengths .1)
+    few-records = few-by-length body lawful-length
 
     pub whole-records : length body ≡ records body * recordSize
-    whole-records = let rest = eqb-true (length body % recordSize) 0 (lengths .0) in omega arith
+    whole-records = whole-by-length body lawful-length
 
     pub breaks-none : (k : ℕ) → k < records body → breaksAt body k ≡ false
     unfolding recordRefusal

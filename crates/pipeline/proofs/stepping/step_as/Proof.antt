@@ -9,8 +9,7 @@ use Rattle.machine.proofs.Orderly.{orderly-is-tested}
 use Rattle.record.proofs.Refusals.{stop, go-on, last-passes, last-fails}
 use Rattle.record.specs.Body.{traceOf}
 use Rattle.schedule.proofs.Settled.{length-settle}
-use Rattle.pipeline.proofs.Answer.{refused, stepped, step-settles}
-use Rattle.pipeline.proofs.Lengths.{faultless-length}
+use Rattle.pipeline.proofs.Answer.{faultless-length, refused, stepped, step-settles}
 use Rattle.pipeline.proofs.stepping.step_as.Statement.{statement}
 use Rattle.pipeline.proofs.stepping.step_as.Tie as tie
 
