@@ -12,7 +12,7 @@ length-refusal-requires c κs = search needs
 
 returns : tie.Need-returns
 unfolding settledRefusal bodyRefusal
-returns c = stop _ (c .before .length-refusal .ensures) (c .if1 .taken) ∙ then-joins _ _ _
+returns c = stop _ (search needs) (omega arith) ∙ then-joins _ _ _
 
 known-refusal-requires : tie.Need-known-refusal-requires
 known-refusal-requires c κs = search needs
