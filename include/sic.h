@@ -3,9 +3,12 @@
  * Link target/staticlib/libcapi.a, which `rt staticlib capi` proves and writes (x86-64 Linux).
  *
  * A slice is a pointer and a length in elements; an empty one has any pointer that is not null. Nothing
- * is kept after a call: what is lent stays the caller's, and only `out` and `state` are written to. A
- * call that declines gives its refusal number, zeros for numbers, false for a yes or no and an empty
- * part, and leaves what was lent as it was. No call has a precondition on the bytes it is given.
+ * is kept after a call: what is lent stays the caller's, and only `out` and `state` are written to. They
+ * must not overlap with anything else that is lent to the same call, and a bool in a state must be one
+ * of C's, 0 or 1. Otherwise no call has a precondition: files, bodies and states may hold anything.
+ *
+ * A call gives the first refusal number in its list below that applies. Then it gives zeros for numbers,
+ * false for a yes or no and an empty part, and leaves what was lent as it was.
  */
 #ifndef SIC_H
 #define SIC_H
@@ -118,7 +121,7 @@ typedef struct {
     size_t length;
 } sic_reported;
 
-/* Open: where trace `trace`'s body is in the file. 1 to 9, in this order. */
+/* Open: where trace `trace`'s body is in the file. 1, 2, 3, 4; then, entry by entry, 5 and 6; then 7, 8, 9. */
 sic_part sic_open(const uint8_t *file, size_t file_length, uint32_t trace);
 
 /* Write: the job file of the counts and the joined records, in `out`. 3, 5, 13, 1, 8, 14. */
@@ -127,7 +130,8 @@ sic_written sic_write(const uint16_t *counts, size_t traces, const uint8_t *reco
 /* Whether a body may be viewed: 10, 8, or 0. */
 uint32_t sic_check(const uint8_t *body, size_t body_length);
 
-/* The fields of instruction k of any bytes, as they stand. 9. */
+/* The fields of instruction k of any bytes, as they stand: of bytes that were never checked, kinds to 255
+ * and flags to 3, and bits 4 to 7 of the flags are in no field. 9. */
 sic_read sic_record(const uint8_t *body, size_t body_length, uint32_t k);
 
 /* Everything in pre. */
@@ -160,7 +164,7 @@ size_t sic_chart(const uint8_t *file, size_t file_length, uint8_t *out, size_t o
 
 /* The report of the file as text: a line for each trace with its margin, then how many deadlines are
  * met. `deadlines` has one for all traces or one for each; where it has not, or `out` has fewer than
- * SIC_REPORT_BYTES bytes, the output stays as it is and the length is 0. 1 to 8. */
+ * SIC_REPORT_BYTES bytes, the output stays as it is and the length is 0. 1 to 8, as Open. */
 sic_reported sic_report(const uint8_t *file, size_t file_length, const uint32_t *deadlines, size_t deadlines_length, uint8_t *out, size_t out_length);
 
 #ifdef __cplusplus

@@ -163,7 +163,7 @@ pub fn record_at(body: &[u8], k: u32) -> Result<Record, Refusal> {
     answer(read.refusal, read.fields)
 }
 
-/// A trace's body as a part of its file. Refuses 1 to 9.
+/// A trace's body as a part of its file. Refuses 1 to 4; then, entry by entry, 5 and 6; then 7, 8, 9.
 #[inline]
 pub fn open(file: &[u8], trace: u32) -> Result<&[u8], Refusal> {
     let part = unsafe { raw::sic_open(file.as_ptr(), file.len(), trace) };
@@ -229,7 +229,7 @@ pub fn chart(file: &[u8]) -> String {
 }
 
 /// The report of a job file: a line for each trace with its margin, then how many deadlines are met. There is one deadline
-/// for all traces or one for each, else no report. Refuses 1 to 8.
+/// for all traces or one for each, else no report. Refuses 1 to 8, as `open`.
 pub fn report(file: &[u8], deadlines: &[u32]) -> Result<Option<String>, Refusal> {
     let mut text = vec![0; REPORT_BYTES];
     let reported = unsafe { raw::sic_report(file.as_ptr(), file.len(), deadlines.as_ptr(), deadlines.len(), text.as_mut_ptr(), text.len()) };

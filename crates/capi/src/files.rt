@@ -3,10 +3,11 @@
 ghost use mathlib.Core.Path.{_≡_};
 ghost use lib.ListN.{length, take, drop};
 ghost use Rattle.record.specs.Body.{bodyRefusal, readAnswer};
-ghost use Rattle.job.specs.Open.{openRefusal, openBody};
+ghost use Rattle.job.specs.Open.{openBody};
 ghost use Rattle.writer.specs.Write.{writeAnswer, writeOutput};
 ghost use Rattle.drawing.specs.Chart.{chartLength, chartOutput};
 ghost use Rattle.reporting.specs.Report.{reportAnswer, reportOutput};
+ghost use Rattle.capi.specs.Part.{openPart};
 use record::Read;
 use reporting::Reported;
 use writer::Written;
@@ -19,9 +20,10 @@ pub struct Part {
     pub length: usize,
 }
 
+// The part, by where it starts and how long it is, and that these bytes are the body.
 #[no_mangle]
 pub extern "C" fn sic_open(file: &[u8], trace: u32) -> Part
-    ensures { λ r. ⌜ (r .refusal ≡ openRefusal (now (file .entry)) trace) × (take (r .length) (drop (r .start) (now (file .entry))) ≡ openBody (now (file .entry)) trace) ⌝ }
+    ensures { λ r. ⌜ (r ≡ openPart (now (file .entry)) trace) × (take (r .length) (drop (r .start) (now (file .entry))) ≡ openBody (now (file .entry)) trace) ⌝ }
 {
     let found = job::locate(file, trace);
     let body = job::cut(file, found.start, found.end);

@@ -6,12 +6,8 @@ use mathlib.Core.Path.{_≡_, refl, ap, ap₂}
 use native.Mathlib.Omega.{arith}
 use lib.ListN.{length}
 use Rattle.machine.specs.Instruction.{Flag, hit, miss, unknown, Instruction, Trace, instruction}
-use Rattle.machine.specs.Time.{Settled, hit-stays, miss-stays, unknown-hits, unknown-misses, SettledInstruction, Settling, settled-none, settled-more}
-
--- an instruction without an unknown flag
-pub record Known (i : Instruction) : Type 0 where
-  pub fetch : ¬ (i .fetch ≡ unknown)
-  pub access : ¬ (i .access ≡ unknown)
+use Rattle.machine.specs.Claims.{OnlySettling}
+use Rattle.machine.specs.Time.{Settled, hit-stays, miss-stays, unknown-hits, unknown-misses, SettledInstruction, Settling, settled-none, settled-more, Known}
 
 hit-known : ¬ (hit ≡ unknown)
 hit-known e = let z : _≡_ {A = ℕ} 0 1 = cc in omega arith
@@ -59,7 +55,9 @@ settling-at settled-none k l = absurd (omega arith)
 settling-at (settled-more h rest) zero l = h
 settling-at (settled-more h rest) (suc k) l = settling-at rest k (omega arith)
 
--- "a trace without unknown flags is its own only settling"
-pub only-settling : {trace settling : Trace} → Settling trace settling → ((k : ℕ) → k < length trace → Known (instruction trace k)) → settling ≡ trace
-only-settling settled-none known = refl
-only-settling (settled-more h rest) known = ap₂ _∷_ (known-stays h (known 0 (omega arith))) (only-settling rest (λ k l. known (suc k) (omega arith)))
+its-own : {trace settling : Trace} → Settling trace settling → ((k : ℕ) → k < length trace → Known (instruction trace k)) → settling ≡ trace
+its-own settled-none known = refl
+its-own (settled-more h rest) known = ap₂ _∷_ (known-stays h (known 0 (omega arith))) (its-own rest (λ k l. known (suc k) (omega arith)))
+
+pub only-settling : OnlySettling
+only-settling trace settling = its-own

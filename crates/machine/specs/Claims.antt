@@ -1,4 +1,5 @@
--- What is shown of the rules, as named types. `proofs/` has a term of each.
+-- What is shown of the rules, as named types. `proofs/` has a term of each. The sentences are document 01's and, where it says so, demand 3's
+-- (docs/CLAIMS.md).
 use Prim.Native.Nat.{ℕ, _+_, _≤_, _<_}
 use mathlib.Core.Bool.{Bool, true, false}
 use mathlib.Core.Logic.{_↔_}
@@ -7,7 +8,7 @@ use lib.Dec.{T}
 use lib.ListN.{length}
 use Rattle.machine.specs.Instruction.{hit, miss, Instruction, Trace, instruction}
 use Rattle.machine.specs.Rules.{Place, Places, further, cycle, after, allLeft}
-use Rattle.machine.specs.Time.{bound, finish, Settling, settle, best, worst}
+use Rattle.machine.specs.Time.{bound, finish, Settling, Known, settle, best, worst}
 use Rattle.machine.specs.Order.{Slower, SameFlags, added}
 use Rattle.machine.specs.Cases.{cases, further as furtherCases, casesHold, caseD, rows, chartOfD}
 use Rattle.machine.specs.State.{start, placeOf, stateOf, Orderly, orderly}
@@ -35,24 +36,32 @@ FinishIsLeast =
 abbrev pub FinishBounded : Type 0
 FinishBounded = (trace : Trace) → finish trace ≤ bound trace
 
--- "no instruction is ever further on in the second", and so it finishes no earlier
+-- demand 3: "no instruction is ever further on in the second", and so it finishes no earlier
 abbrev pub Ordered : Type 0
 Ordered =
     (first second : Trace) →
     Slower first second →
     ((t i : ℕ) → i < length first → further (after second t i) (after first t i) ≡ false) × (finish first ≤ finish second)
 
--- "where only latencies differ it finishes later by at most what was added"
+-- demand 3: "where only latencies differ it finishes later by at most what was added"
 abbrev pub AddedAtMost : Type 0
 AddedAtMost = (first second : Trace) → Slower first second → SameFlags first second → finish second ≤ finish first + added first second
 
--- "no settling of its unknown flags finishes later than the worst time given or earlier than the best, and both are attained"
+-- demand 3: "no settling of its unknown flags finishes later than the worst time given or earlier than the best, and both are attained"
 abbrev pub SettlingsEnclosed : Type 0
 SettlingsEnclosed =
     (trace : Trace) →
     ((settling : Trace) → Settling trace settling → (best trace ≤ finish settling) × (finish settling ≤ worst trace))
     × Settling trace (settle hit trace)
     × Settling trace (settle miss trace)
+
+-- "a trace without unknown flags is its own only settling"
+abbrev pub OnlySettling : Type 0
+OnlySettling =
+    (trace settling : Trace) →
+    Settling trace settling →
+    ((k : ℕ) → k < length trace → Known (instruction trace k)) →
+    settling ≡ trace
 
 -- The test of orderly states is equivalent to the definition.
 abbrev pub OrderlyIsTested : Type 0

@@ -42,6 +42,11 @@ pub data Settling : Trace → Trace → Type 0 where
   settled-none : Settling [] []
   settled-more : {i s : Instruction} {trace settling : Trace} → SettledInstruction i s → Settling trace settling → Settling (i ∷ trace) (s ∷ settling)
 
+-- an instruction without an unknown flag
+pub record Known (i : Instruction) : Type 0 where
+  pub fetch : ¬ (i .fetch ≡ unknown)
+  pub access : ¬ (i .access ≡ unknown)
+
 -- every unknown flag made the one flag
 unfoldable pub settleFlag : Flag → Flag → Flag
 settleFlag to hit = hit
@@ -68,7 +73,7 @@ unfolding settleInstruction
 settle to [] = []
 settle to (i ∷ trace) = settleInstruction to i ∷ settle to trace
 
--- "unknown flags all hits, all misses": that no settling finishes earlier or later is shown, not assumed
+-- the finishing times with every unknown flag a hit, and a miss: that no settling finishes earlier or later is shown, not assumed
 unfoldable pub best : Trace → ℕ
 best trace = finish (settle hit trace)
 

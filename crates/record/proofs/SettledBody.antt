@@ -7,8 +7,8 @@ use mathlib.Core.Path.{_≡_, ap, subst, _∙_}
 use native.Mathlib.Omega.{arith}
 use lib.ListN.{length}
 use Rattle.machine.specs.Instruction.{Flag, unknown, Instruction, Trace, instruction}
-use Rattle.machine.specs.Time.{Settled, SettledInstruction, Settling, settle}
-use Rattle.machine.proofs.Settled.{Known, settled-known, settling-length, settling-at, only-settling}
+use Rattle.machine.specs.Time.{Settled, SettledInstruction, Settling, Known, settle}
+use Rattle.machine.proofs.Settled.{settled-known, settling-length, settling-at, only-settling}
 use Rattle.machine.proofs.Settlings.{settles}
 use Rattle.record.specs.Rules.{hasUnknown, flagOf, instructionOf}
 use Rattle.record.specs.Body.{Bytes, records, fieldsAt, breaksAt, unknownAt, traceOf, bodyOf, settledBody, bodyRefusal, settledRefusal}
@@ -88,7 +88,7 @@ module _ (body : List ℕ) (b : Bytes body) (settled : settledRefusal body ≡ 0
       (record { fetch = flag-known _ (flags .0); access = flag-known _ (flags .1) })
 
   pub settled-trace : (to : Flag) → Settled unknown to → settle to (traceOf body) ≡ traceOf body
-  settled-trace to u = only-settling (settles to u (traceOf body)) trace-known
+  settled-trace to u = only-settling _ _ (settles to u (traceOf body)) trace-known
 
   pub settled-body : (to : Flag) → Settled unknown to → settledBody to body ≡ body
   unfolding settledBody

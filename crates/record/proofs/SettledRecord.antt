@@ -7,8 +7,8 @@ use native.Mathlib.Omega.{arith}
 use borrow.Author.Tests.{eqb-true, eq-eqb, ne-eqb, le-ltb, not-false}
 use lib.Dec.{eqb}
 use Rattle.machine.specs.Instruction.{Flag, hit, miss, unknown, Instruction}
-use Rattle.machine.specs.Time.{Settled, hit-stays, SettledInstruction}
-use Rattle.machine.proofs.Settled.{Known, settled-known}
+use Rattle.machine.specs.Time.{Settled, hit-stays, SettledInstruction, Known}
+use Rattle.machine.proofs.Settled.{settled-known}
 use Rattle.record.specs.declared.layout.Fields.{Fields}
 use Rattle.record.specs.Layout.{fieldsFrom}
 use Rattle.record.specs.Rules.{noAccess, breaksRules, hasUnknown, flagOf, flagNumber, instructionOf}

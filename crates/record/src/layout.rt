@@ -27,7 +27,7 @@ pub const FETCH_LATENCY: usize = 6;
 
 pub const DATA_LATENCY: usize = 8;
 
-// Flags are 0 hit, 1 miss, 2 unknown.
+// Flags are 0 hit, 1 miss, 2 unknown. Bytes that were never checked may give 3 and any kind to 255.
 #[repr(C)]
 pub struct Fields {
     pub kind: u32,

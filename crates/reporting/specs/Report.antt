@@ -1,6 +1,6 @@
--- The report of a job file against deadlines, as text: "prints a line for each trace: its number, instructions, unknown flags, best, worst,
--- deadline, and the margin with its sign, `+`, `-` or `0`, first on the line and aligned, since that is the figure people look for; last a line that
--- says how many deadlines are met. Columns stay aligned for the largest values."
+-- The report of a job file against deadlines, as text: a line for each trace with its number, instructions, unknown flags, best, worst, deadline,
+-- and the margin with its sign, `+`, `-` or `0`, first on the line and aligned, since that is the figure people look for; last a line that says how
+-- many deadlines are met. Columns stay aligned for the largest values.
 use Prim.Native.Nat.{ℕ, zero, suc, _+_}
 use mathlib.Core.Bool.{Bool, cond}
 use mathlib.Core.List.{List, [], _∷_, _++_}

@@ -14,6 +14,7 @@ use Rattle.machine.specs.Test.{_or_}
 use Rattle.machine.specs.Time.{bound, settleFlag, settleInstruction, settle}
 use Rattle.machine.proofs.Bounds.{Limited, bound-limited}
 use Rattle.machine.proofs.Connectives.{clash}
+use Rattle.machine.proofs.Finish.{finish-bounded}
 use Rattle.record.specs.declared.layout.Fields.{Fields}
 use Rattle.record.specs.declared.layout.Read.{Read}
 use Rattle.record.specs.Rules.{kindOf, flagOf, instructionOf}
@@ -21,7 +22,7 @@ use Rattle.record.specs.Body.{Bytes, records, fieldsAt, traceOf, bodyRefusal, r
 use Rattle.record.proofs.Accepted.{few-records, fields-within}
 use Rattle.record.proofs.Encoding.{length-traceOf, instruction-traceOf}
 use Rattle.record.proofs.Within.{OneOf, Within}
-use Rattle.schedule.specs.Code.{maxTime, Lawful}
+use Rattle.schedule.specs.Code.{maxTime, FinishWithin, Lawful}
 use Rattle.schedule.proofs.Numbers.{store-number}
 use Rattle.schedule.proofs.Settled.{length-settle, instruction-settle, bound-settle}
 
@@ -62,6 +63,9 @@ module _ (body : List ℕ) (b : Bytes body) (accepted : bodyRefusal body ≡ 0) 
 
   pub settled-small : (to : Flag) → bound (settle to (traceOf body)) ≤ maxTime
   settled-small to = omega (arith, bound-settle to (traceOf body), small)
+
+pub finish-within : FinishWithin
+finish-within body b accepted to = omega (arith, finish-bounded (settle to (traceOf body)), settled-small body b accepted to)
 
 module _ (body : List ℕ) where
   pub length-settled : (to : Flag) → length (settle to (traceOf body)) ≡ records body

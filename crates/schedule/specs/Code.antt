@@ -1,12 +1,15 @@
 -- What the crate's structs stand for in the theory of the schedule, and the limit that keeps sums of 32 bits from wrapping.
 use Prim.Native.Nat.{ℕ, _+_, _^_, _≤_, _<_}
 use mathlib.Core.Bool.{true, false}
+use mathlib.Core.List.{List}
 use mathlib.Core.Path.{_≡_}
 use Rattle.machine.specs.Test.{_or_}
-use Rattle.machine.specs.Instruction.{hit, Instruction}
+use Rattle.machine.specs.Instruction.{Flag, hit, Instruction}
+use Rattle.machine.specs.Time.{finish, settle}
 use Rattle.machine.specs.Rules as Rules
 use Rattle.machine.proofs.Stages.{level}
 use Rattle.machine.proofs.Window as Theory
+use Rattle.record.specs.Body.{Bytes, traceOf, bodyRefusal}
 use Rattle.schedule.specs.declared.levels.Window.{Window}
 use Rattle.schedule.specs.declared.levels.Times.{Times}
 use Rattle.schedule.specs.declared.places.Place.{Place}
@@ -32,9 +35,13 @@ timesOf e = record { IF = e .IF; ID = e .ID; EX = e .EX; MEM = e .MEM; last = e 
 abbrev pub numbered : Rules.Place → Place
 numbered p = record { level = level (p .stage); count = p .count }
 
--- "so at most 537,931,776": no time of an accepted trace is later
+-- "so at most 537,931,776"
 abbrev pub maxTime : ℕ
 maxTime = 537931776
+
+-- no accepted trace finishes later, with its unknown flags all hits or all misses
+abbrev pub FinishWithin : Type 0
+FinishWithin = (body : List ℕ) → Bytes body → bodyRefusal body ≡ 0 → (to : Flag) → finish (settle to (traceOf body)) ≤ maxTime
 
 -- What the times rest on of the record rules: "Kinds 0 and 3 have data bits 0", and "data latency, 1 to 65,535 for kinds 1 and 2".
 pub record Lawful (i : Instruction) : Type 0 where

@@ -42,7 +42,7 @@ pub record Attained (engine : Engine) (body : List ℕ) (time : ℕ) : Type 0 wh
   pub settles : SettlingOf body settling
   pub attains : engine .time settling ≡ time
 
--- what demand 3 says of it
+-- what demand 3 says of it, in its own words (docs/CLAIMS.md)
 pub record Holds (engine : Engine) : Type 0 where
   -- "no instruction is ever further on in the second"
   pub ordered :

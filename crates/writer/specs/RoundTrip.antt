@@ -1,4 +1,4 @@
--- "A written job file reads back as the same traces, and an accepted file is what the writer makes of its traces."
+-- Demand 2: "A written job file reads back as the same traces, and an accepted file is what the writer makes of its traces."
 use Prim.Native.Nat.{ℕ, _+_, _*_, _<_}
 use mathlib.Core.List.{List}
 use mathlib.Core.Path.{_≡_}
