@@ -47,10 +47,9 @@ fn pass_over(body: &[u8], limit: u32, k: u32, w: Window, seats: &mut [u32; SEATS
 }
 
 // How many instructions, from the first on, have all left by a limit, and the window before the next.
-#[repr(C)]
-pub(crate) struct Gone {
-    pub(crate) count: u32,
-    pub(crate) window: Window,
+struct Gone {
+    count: u32,
+    window: Window,
 }
 
 fn gone_by(body: &[u8], limit: u32) -> Gone

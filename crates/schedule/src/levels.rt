@@ -77,7 +77,8 @@ pub fn no_window() -> Window
 }
 
 // One function for each stage: the own way there, the stage becoming free, and what is waited for
-// before it; `from` is when it entered the stage before.
+// before it; `from` is when it entered the stage before. That is known last, so one sum and one
+// choice are made with it and the rest before.
 pub fn enter_if(w: Window, f: Fields) -> u32
     ensures { λ r. ⌜ r ≡ enterIF (windowOf w) (instructionOf f) ⌝ }
 {
