@@ -7,8 +7,8 @@
  * must not overlap with anything else that is lent to the same call, and a bool in a state must be one
  * of C's, 0 or 1. Otherwise no call has a precondition: files, bodies and states may hold anything.
  *
- * A call gives the first refusal number in its list below that applies. Then it gives zeros for numbers,
- * false for a yes or no and an empty part, and leaves what was lent as it was.
+ * A call that declines gives the first refusal number of its list below that applies, zeros for numbers,
+ * false for a yes or no and an empty part, and leaves what was lent as it was, where not told otherwise.
  */
 #ifndef SIC_H
 #define SIC_H

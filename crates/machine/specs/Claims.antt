@@ -1,13 +1,13 @@
 -- What is shown of the rules, as named types. `proofs/` has a term of each. The sentences are document 01's and, where it says so, demand 3's
 -- (docs/CLAIMS.md).
 use Prim.Native.Nat.{ℕ, _+_, _≤_, _<_}
-use mathlib.Core.Bool.{Bool, true, false}
+use mathlib.Core.Bool.{true, false}
 use mathlib.Core.Logic.{_↔_}
 use mathlib.Core.Path.{_≡_}
 use lib.Dec.{T}
 use lib.ListN.{length}
-use Rattle.machine.specs.Instruction.{hit, miss, Instruction, Trace, instruction}
-use Rattle.machine.specs.Rules.{Place, Places, further, cycle, after, allLeft}
+use Rattle.machine.specs.Instruction.{hit, miss, Trace, instruction}
+use Rattle.machine.specs.Rules.{further, cycle, after, allLeft}
 use Rattle.machine.specs.Time.{bound, finish, Settling, Known, settle, best, worst}
 use Rattle.machine.specs.Order.{Slower, SameFlags, added}
 use Rattle.machine.specs.Cases.{cases, further as furtherCases, casesHold, caseD, rows, chartOfD}

@@ -1,8 +1,8 @@
 -- The pairs of traces that demand 3 compares, and what was added: document 01, "Job file and instruction record".
-use Prim.Native.Nat.{ℕ, zero, suc, _+_, _-_, _≤_}
-use mathlib.Core.List.{List, [], _∷_}
+use Prim.Native.Nat.{ℕ, _+_, _-_, _≤_}
+use mathlib.Core.List.{[], _∷_}
 use mathlib.Core.Path.{_≡_}
-use Rattle.machine.specs.Instruction.{Flag, hit, miss, unknown, Instruction, Trace}
+use Rattle.machine.specs.Instruction.{Flag, hit, miss, Instruction, Trace}
 
 -- "a flag that is a hit in the first may be a miss in the second, never the reverse"; demand 3 is about traces without unknown flags
 pub data FlagTo : Flag → Flag → Type 0 where

@@ -1,9 +1,9 @@
 -- Finishing times, settlings, best and worst: document 01, "One cycle" and "Job file and instruction record".
 use Prim.Native.Nat.{ℕ, zero, suc, _+_}
 use mathlib.Core.Bool.{Bool, true, false}
-use mathlib.Core.List.{List, [], _∷_, map}
+use mathlib.Core.List.{[], _∷_}
 use mathlib.Core.Path.{_≡_}
-use Rattle.machine.specs.Instruction.{Kind, Flag, hit, miss, unknown, Instruction, Trace}
+use Rattle.machine.specs.Instruction.{Flag, hit, miss, unknown, Instruction, Trace}
 use Rattle.machine.specs.Rules.{after, allLeft}
 
 -- "the sum over all instructions of 6 plus the three latencies"

@@ -105,6 +105,7 @@ fn known_refusal(body: &[u8]) -> u32
     0
 }
 
+// 8 alone: the same pass, its 11 left aside.
 pub fn record_refusal(body: &[u8]) -> u32
     ensures { λ r. ⌜ r ≡ recordRefusal (now (body .entry)) ⌝ }
 {

@@ -1,7 +1,7 @@
 -- Where Run's pass may stop: after the last instruction, or where not all so far are fetched by the limit. From there on everything is in pre, which
 -- adds nothing to the state, and what is in pre at the limit leaves later, so that the limit is the number of cycles run.
 use Prim.Native.Nat.{ℕ, zero, suc, _+_, _-_, _≤_, _<_, min}
-use mathlib.Core.Bool.{true, false}
+use mathlib.Core.Bool.{false}
 use mathlib.Core.Path.{_≡_, refl, sym, ap, _∙_}
 use native.Mathlib.Omega.{arith}
 use borrow.Author.Tests.{lt-leb}
@@ -9,7 +9,7 @@ use lib.Dec.{leb}
 use lib.ListN.{length}
 use Rattle.machine.specs.Instruction.{Trace}
 use Rattle.machine.specs.Rules.{Place, pre, same, after}
-use Rattle.machine.specs.State.{fetchedBelow, stateOf}
+use Rattle.machine.specs.State.{fetchedBelow}
 use Rattle.machine.specs.Time.{finish}
 use Rattle.machine.specs.declared.State.{State}
 use Rattle.machine.proofs.Connectives.{clash}

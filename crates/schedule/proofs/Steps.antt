@@ -1,6 +1,6 @@
 -- What the calls of each function that the window takes give together, over plain variables: one congruence for each.
 use Prim.Native.Nat.{ℕ, _+_, _-_, max}
-use mathlib.Core.Bool.{Bool, cond, _&&_, _||_}
+use mathlib.Core.Bool.{Bool, cond, _&&_}
 use mathlib.Core.Path.{_≡_, _∙_, sym}
 use native.Mathlib.Omega.{arith}
 use lib.Dec.{ltb, eqb}
@@ -8,7 +8,7 @@ use Rattle.machine.specs.Instruction.{Instruction}
 use Rattle.machine.specs.Rules.{IF, EX, MEM, isLoad, isStore, isBranch, hits, misses, entry, reads, missesData}
 use Rattle.machine.specs.Time.{settleInstruction}
 use Rattle.machine.proofs.Window as Theory
-use Rattle.machine.proofs.Window.{enterIF, enterID, enterEX, enterMEM, enterLast, lastCount, enterPost}
+use Rattle.machine.proofs.Window.{enterIF, enterID, enterEX, enterMEM, enterLast, lastCount}
 use Rattle.record.specs.declared.layout.Fields.{Fields}
 use Rattle.record.specs.Rules.{flagOf, instructionOf}
 use Rattle.schedule.specs.Code.{windowOf, timesOf, Lawful}

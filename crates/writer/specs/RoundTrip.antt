@@ -1,12 +1,12 @@
 -- Demand 2: "A written job file reads back as the same traces, and an accepted file is what the writer makes of its traces."
-use Prim.Native.Nat.{ℕ, _+_, _*_, _<_}
+use Prim.Native.Nat.{ℕ, _*_, _<_}
 use mathlib.Core.List.{List}
 use mathlib.Core.Path.{_≡_}
 use lib.ListN.{length, take, drop}
 use Rattle.record.specs.Layout.{recordSize}
 use Rattle.record.specs.Body.{Bytes, firsts}
 use Rattle.job.specs.Layout.{traces, countAt, before, recordsOf}
-use Rattle.job.specs.Open.{fileRefusal, openRefusal, openBody}
+use Rattle.job.specs.Open.{fileRefusal, openBody}
 use Rattle.writer.specs.Write.{count, fileOf, writeRefusal}
 
 -- the counts of a file, whose joined records are `recordsOf`

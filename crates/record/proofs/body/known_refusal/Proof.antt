@@ -28,7 +28,7 @@ breaks-from-requires c κs = search needs
 
 returns : tie.Need-returns Inv-loop μ-loop
 unfolding recordRefusal breaksAt
-returns c = stop _ (scan-refused _ _ _ _ (omega arith) (sym (c .before .breaks-from .ensures) ∙ c .if1 .taken)) (omega arith)
+returns c = stop _ (scan-refused _ _ (c .before .before .before .loop .k) _ (omega arith) cc) (omega arith)
 
 mul-unknown-from : tie.Need-mul-unknown-from Inv-loop μ-loop
 mul-unknown-from c = search needs
