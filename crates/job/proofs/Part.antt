@@ -1,6 +1,6 @@
--- The part of the file that `locate`'s answer names is the body that Open hands back: an accepted body lies in its file, and a refusal names an
--- empty part. Such a body is accepted.
-use Prim.Native.Nat.{ℕ, suc, _<_, _/_, _%_}
+-- The part of the file that `locate`'s answer names is the body that Open hands back, in its place: an accepted body lies in its file, and a
+-- refusal names an empty part. Such a body is accepted.
+use Prim.Native.Nat.{ℕ, suc, _<_, _≤_, _/_, _%_}
 use mathlib.Core.Bool.{Bool, true, false}
 use mathlib.Core.List.{List, []}
 use mathlib.Core.Path.{_≡_, refl, sym, subst, _∙_}
@@ -9,6 +9,8 @@ use native.Mathlib.Nat.{add-sub-cancel-left}
 use native.Mathlib.Omega.{arith}
 use lib.Dec.{eqb}
 use lib.ListN.{length}
+use denote.Ref.{RefT, now}
+use Rattle.record.specs.Part.{StartsAt}
 use Rattle.record.specs.Layout.{recordSize}
 use Rattle.record.specs.Refusal.{_unless_}
 use Rattle.record.specs.Body.{lengthRefusal, recordRefusal, bodyRefusal}
@@ -72,3 +74,30 @@ module _ (file : List ℕ) (trace : ℕ) where
       (then-none _ _
       (rw (eq-eqb (length (bodyAt file trace) % recordSize) 0 (omega arith), le-leb (length (bodyAt file trace) / recordSize) 4096 (omega arith)))
       ∙ first-at (λ t. recordRefusal (bodyAt file t)) (traces file) (fine .records) trace inside)
+
+module _ (whole part : RefT (List ℕ)) (trace : ℕ) where
+  found
+      : openRefusal (now whole) trace ≡ 0 →
+      locateAnswer (now whole) trace ≡ record { refusal = 0; start = startAt (now whole) trace; end = startAt (now whole) (suc trace) }
+  unfolding locateAnswer
+  found e = rw (eq-eqb (openRefusal (now whole) trace) 0 e)
+
+  inside : openRefusal (now whole) trace ≡ 0 → (startAt (now whole) trace ≤ startAt (now whole) (suc trace)) × (startAt (now whole) (suc trace) ≤ length (now whole))
+  inside e =
+      let next = start-suc (traces (now whole)) (countAt (now whole)) trace in
+      let lies = body-inside (now whole) (file-fine (now whole) (opened-file (now whole) trace e) .ends) trace (opened-trace (now whole) trace e) in
+      (omega arith, omega arith)
+
+  -- a part that is cut out where `locate` says starts where the body does
+  pub placed
+      : (l : Located) → l ≡ locateAnswer (now whole) trace →
+      (l .start ≤ l .end → l .end ≤ length (now whole) → StartsAt whole (l .start) part) →
+      openRefusal (now whole) trace ≡ 0 →
+      StartsAt whole (startAt (now whole) trace) part
+  placed l e cut z =
+      subst
+      (λ (x : Located). (x .start ≤ x .end → x .end ≤ length (now whole) → StartsAt whole (x .start) part))
+      (e ∙ found z)
+      cut
+      (inside z .0)
+      (inside z .1)

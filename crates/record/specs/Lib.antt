@@ -3,3 +3,4 @@ pub mod Layout
 pub mod Rules
 pub mod Body
 pub mod Claims
+pub mod Part

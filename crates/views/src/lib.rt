@@ -1,6 +1,7 @@
 // View: a checked body carried along, and the fields of its instructions.
 ghost use mathlib.Core.Path.{_≡_};
 ghost use Rattle.record.specs.Body.{bodyRefusal, readAnswer};
+ghost use Rattle.record.specs.Part.{StartsAt};
 ghost use Rattle.views.specs.View.{viewBody};
 use record::Read;
 use record::body_refusal;
@@ -13,10 +14,11 @@ pub struct View<'a> {
     pub body: &'a [u8],
 }
 
-// The body, or none of it where it was refused.
+// The body, in its place; or none of it where it was refused, and then it is left free where the
+// empty part stands.
 fn kept(body: &[u8], refusal: u32) -> &[u8]
     requires { ⌜ refusal ≡ bodyRefusal (now body) ⌝ }
-    ensures { λ r. ⌜ now r ≡ viewBody (now (body .entry)) ⌝ }
+    ensures { λ r. ⌜ (now r ≡ viewBody (now (body .entry))) × (bodyRefusal (now (body .entry)) ≡ 0 → StartsAt (body .entry) 0 r) ⌝ }
 {
     if refusal != 0 {
         return &body[..0];
@@ -24,8 +26,12 @@ fn kept(body: &[u8], refusal: u32) -> &[u8]
     body
 }
 
+// The body carried along as it lies, not copied: its bytes, which tell its length, and its place. On
+// a refusal the part is empty, and its place is left free.
 pub fn make_view<'a>(body: &'a [u8]) -> View<'a>
-    ensures { λ r. ⌜ (r .refusal ≡ bodyRefusal (now (body .entry))) × (now (r .body) ≡ viewBody (now (body .entry))) ⌝ }
+    ensures { λ r. ⌜ (r .refusal ≡ bodyRefusal (now (body .entry)))
+        × (now (r .body) ≡ viewBody (now (body .entry)))
+        × (bodyRefusal (now (body .entry)) ≡ 0 → StartsAt (body .entry) 0 (r .body)) ⌝ }
 {
     let refusal = body_refusal(body);
     let part = kept(body, refusal);

@@ -42,6 +42,7 @@ use Rattle.record.proofs.body_refusal as refusal
 use Rattle.record.proofs.body_refusal.Symbol as refusal-def
 use Rattle.record.proofs.body_refusal.Symbol.{name as #record·body-refusal}
 use Rattle.record.proofs.body_refusal.Met as refusal-thm
+use Rattle.record.specs.Part.{StartsAt}
 use Rattle.views.specs.View.{viewBody}
 use Rattle.views.specs.declared.View.{View}
 use Rattle.views.proofs.View as T
@@ -117,14 +118,18 @@ module _ {M : Type 1} (𝓤 : URA M) (H : Heap 𝓤) (A : Atoms 𝓤) (W : Given
       move ! (2 ∷ []) $ use1 W (‵ Own ⊛ ‵ Own) (shr-slice-copy 𝓤 H A W (named 0) κ u8 .twice s (v s ∷ [])) $ split ! $ move ! (0 ∷ 2 ∷ []) $ fjoin ! $
       move ! (2 ∷ 0 ∷ []) $ use2 W (raw (Keeps 𝓤 H A mem run .pre (to-kept n))) (asked n e) $ frame ! $ done !
 
-  kept-said : (n : ℕ) (b : RefT (List ℕ)) → ent 𝓤 (ensured 𝓤 H A kept.ended (kept.clauses 𝓤 H A mem run) (κ, tt) (s, (n, tt)) tt b) (fact 𝓤 (now b ≡ viewBody (now s)))
-  kept-said n b = exE 𝓤 _ (λ ws. snd∗ 𝓤 (sem 𝓤 H A (lasts kept.ended (κ, tt) (s, (n, tt)) ws)) (fact 𝓤 (now b ≡ viewBody (now s))))
+  -- the part's bytes and place
+  abbrev Kept : RefT (List ℕ) → Type 0
+  Kept b = (now b ≡ viewBody (now s)) × (bodyRefusal (now s) ≡ 0 → StartsAt s 0 b)
+
+  kept-said : (n : ℕ) (b : RefT (List ℕ)) → ent 𝓤 (ensured 𝓤 H A kept.ended (kept.clauses 𝓤 H A mem run) (κ, tt) (s, (n, tt)) tt b) (fact 𝓤 (Kept b))
+  kept-said n b = exE 𝓤 _ (λ ws. snd∗ 𝓤 (sem 𝓤 H A (lasts kept.ended (κ, tt) (s, (n, tt)) ws)) (fact 𝓤 (Kept b)))
 
   -- the result
   abbrev made : ℕ → RefT (List ℕ) → View
   made n b = record { refusal = n; body = b }
 
-  exits : (n : ℕ) (b : RefT (List ℕ)) → n < 2 ^ 32 → (n ≡ bodyRefusal (now s)) × (now b ≡ viewBody (now s))
+  exits : (n : ℕ) (b : RefT (List ℕ)) → n < 2 ^ 32 → (n ≡ bodyRefusal (now s)) × (now b ≡ viewBody (now s)) × (bodyRefusal (now s) ≡ 0 → StartsAt s 0 b)
       → ent 𝓤 (⋆ 𝓤 H A (‵ (Slice .own b (v b ∷ [])) ∷ (‵ (flft κ q) ⊛ ‵ ftrue) ∷ ‵ Own ∷ [])) (Post (T′.lowered (made n b)))
   exits n b fits e =
       qed W (‵ (Slice .own b (v b ∷ [])) ∷ (‵ (flft κ q) ⊛ ‵ ftrue) ∷ ‵ Own ∷ []) ∵
@@ -151,7 +156,7 @@ module _ {M : Type 1} (𝓤 : URA M) (H : Heap 𝓤) (A : Atoms 𝓤) (W : Given
         use2 W (raw (Keeps 𝓤 H A mem run .pre (to-kept n)) ⊛ ‵ Own) (goes-kept n (is .1) e) $ split ! $
         calls-at ! fm (Keeps 𝓤 H A mem run) known-kept (to-kept n) (and-then ! (load ! (from ! (stop !)) (look ! 6 refl)) (and-then ! (load ! (from ! (stop !)) (look ! 4 refl)) (no-more !))) (λ u′.
         use1 W (later (some (λ (b : RefT (List ℕ)). ((‵ (flft κ q) ⊛ ‵ ftrue) ⊛ ‵ (Slice .own b (u′ ∷ []))) ⊛ raw (ensured 𝓤 H A kept.ended (kept.clauses 𝓤 H A mem run) (κ, tt) (s, (n, tt)) tt b)))) (id⊢ 𝓤 _) $ await ! tt $ pick ! (λ b.
-        split ! $ move ! (1 ∷ []) $ use1 W (raw (fact 𝓤 (now b ≡ viewBody (now s)))) (kept-said n b) $ heard ! (now b ≡ viewBody (now s)) (λ e′. split ! $ move ! (1 ∷ []) $
+        split ! $ move ! (1 ∷ []) $ use1 W (raw (fact 𝓤 (Kept b))) (kept-said n b) $ heard ! (Kept b) (λ e′. split ! $ move ! (1 ∷ []) $
         -- [what the body owns; the token; what s owns; room for _3; …; _2; …; _1; …; room for _0; …]
         peeks ! Slice (Is Slice) (shows 𝓤 H A Slice) b (u′ ∷ []) (λ is′.
         land ! (from ! (stop !)) (init ! 3 refl (shr-slice-lawful 𝓤 H A W erased κ u8 .typed b _ is′ .0)) $
@@ -161,7 +166,7 @@ module _ {M : Type 1} (𝓤 : URA M) (H : Heap 𝓤) (A : Atoms 𝓤) (W : Given
         (init ! 9 refl (tt, (record { fits = is .1 }, ((tt, (record { fits = is′ .0 .1 .0 }, tt)), tt)))) $
         returns ! (look ! 9 refl) $ forget ! 3 refl $ forget ! 5 refl $ forget ! 7 refl $ forget ! 9 refl $
         move ! (9 ∷ 10 ∷ []) $ free1 ! $ move ! (7 ∷ 8 ∷ []) $ free1 ! $ move ! (5 ∷ 6 ∷ []) $ free1 ! $ move ! (3 ∷ 4 ∷ []) $ free1 ! $ free0 ! $
-        by ! (exits n b (is .1) (e, e′))))))))))))))
+        by ! (exits n b (is .1) (e, e′ .0, e′ .1))))))))))))))
 
 module _ {M : Type 1} (𝓤 : URA M) (H : Heap 𝓤) (A : Atoms 𝓤) (W : Given 𝓤 H A) (mem : Memory → SProp 𝓤) (run : Routine → Fun 𝓤) where
   make-view-walks : (C : Calls 𝓤 H) (Λ : Loops 𝓤 H) → FmC 𝓤 H (W .laws) C → Triple 𝓤 (C #record·body-refusal) (Refusal 𝓤 H A mem run) → Triple 𝓤 (C #views·kept) (Keeps 𝓤 H A mem run)

@@ -40,6 +40,8 @@ use denote.Triple.Table.{entered, cited}
 use denote.Triple.Walked.{says, Stays, stay-none, stay-none-slice, walkOf, goes-none, goes-none-slice, Walks, ends-at, walked, walk-meets}
 use denote.Exit.{yes}
 use denote.Triple.Clauses.{ensured, lasts}
+use Rattle.record.specs.Part.{StartsAt}
+use Rattle.job.specs.Layout.{startAt}
 use Rattle.job.specs.Open.{openRefusal, openBody}
 use Rattle.job.specs.declared.opening.Opened.{Opened}
 use Rattle.job.proofs.opening.Opened as T
@@ -48,10 +50,10 @@ use Rattle.job.proofs.opening.open as opening
 use Rattle.job.proofs.opening.open.Symbol as open-def
 use Rattle.job.proofs.opening.open.Symbol.{name as #job·opening·open}
 use Rattle.job.proofs.opening.open.Met as open-thm
-use Rattle.job.proofs.opening.open_body.Key.{name as #job·opening·open-body}
-use Rattle.job.proofs.opening.open_body as body
-use Rattle.job.proofs.opening.open_body.Statement as stated
-use Rattle.job.proofs.opening.open_body.Code as code
+use Rattle.job.proofs.inner.open_body.Key.{name as #job·inner·open-body}
+use Rattle.job.proofs.inner.open_body as body
+use Rattle.job.proofs.inner.open_body.Statement as stated
+use Rattle.job.proofs.inner.open_body.Code as code
 
 abbrev stayed : Stays (body.ended .signature .params) (body.ended .kept)
 stayed = (stay-none-slice (0 ∷ []) tt (plain (λ _. u8)) yes, (stay-none (λ _. u32) yes, tt))
@@ -104,13 +106,17 @@ module _ {M : Type 1} (𝓤 : URA M) (H : Heap 𝓤) (A : Atoms 𝓤) (W : Given
       move ! (1 ∷ []) $ fsplit ! $ use1 W (‵ Own ⊛ ‵ Own) (shr-slice-copy 𝓤 H A W (named 0) κ u8 .twice s (v s ∷ [])) $ split ! $
       move ! (0 ∷ 2 ∷ []) $ fjoin ! $ move ! (2 ∷ 0 ∷ []) $ use2 W (raw (Open 𝓤 H A mem run .pre to-open)) (qed W ((‵ (flft κ q) ⊛ ‵ ftrue) ∷ ‵ (owns (Slice ∷ u32 ∷ []) (s, (n, tt)) at) ∷ []) ∵ join ! $ frame ! $ done !) $ frame ! $ done !
 
+  -- the part's bytes and place; `open` says them too
+  abbrev Handed : RefT (List ℕ) → Type 0
+  Handed b = (now b ≡ openBody (now s) n) × (openRefusal (now s) n ≡ 0 → StartsAt s (startAt (now s) n) b)
+
   abbrev Said : Opened → Type 0
-  Said r = (r .refusal ≡ openRefusal (now s) n) × (now (r .body) ≡ openBody (now s) n)
+  Said r = (r .refusal ≡ openRefusal (now s) n) × (now (r .body) ≡ openBody (now s) n) × (openRefusal (now s) n ≡ 0 → StartsAt s (startAt (now s) n) (r .body))
 
   open-said : (r : Opened) → ent 𝓤 (ensured 𝓤 H A opening.ended (opening.clauses 𝓤 H A mem run) (κ, tt) (s, (n, tt)) tt r) (fact 𝓤 (Said r))
   open-said r = exE 𝓤 _ (λ ws. snd∗ 𝓤 (sem 𝓤 H A (lasts opening.ended (κ, tt) (s, (n, tt)) ws)) (fact 𝓤 (Said r)))
 
-  exits : (r : Opened) (u : Val) → now (r .body) ≡ openBody (now s) n → ent 𝓤 (⋆ 𝓤 H A (‵ (B .own r (u ∷ [])) ∷ (‵ (flft κ q) ⊛ ‵ ftrue) ∷ ‵ Own ∷ [])) (Post (v (r .body)))
+  exits : (r : Opened) (u : Val) → Handed (r .body) → ent 𝓤 (⋆ 𝓤 H A (‵ (B .own r (u ∷ [])) ∷ (‵ (flft κ q) ⊛ ‵ ftrue) ∷ ‵ Own ∷ [])) (Post (v (r .body)))
   exits r u e =
       qed W (‵ (B .own r (u ∷ [])) ∷ (‵ (flft κ q) ⊛ ‵ ftrue) ∷ ‵ Own ∷ []) ∵
       suffices ! _ (ends-at 𝓤 H A body.ended stayed (body.clauses 𝓤 H A mem run) W (((κ, tt), (q, tt), tt, (s, (n, tt)), at), tt) (v (r .body)) (r .body) (tt, (tt, tt)) (tt, (tt, tt))) $ says ! e $
@@ -135,7 +141,7 @@ module _ {M : Type 1} (𝓤 : URA M) (H : Heap 𝓤) (A : Atoms 𝓤) (W : Given
         rewrite ! 3 (λ (x : Val). ‵ (fat fullShare (T′.mir erased) l₃ 0 x)) (ap only (LL.tells D L r _ is)) refl $
         assigns ! (of-opd ! (load ! (from ! (fld ! refl (stop !))) (look-in ! 3 (sub ! 1 refl (whole !))))) (from ! (stop !)) (init ! 9 refl (tt, (tt, (record { fits = LL.owed D L r _ is .1 .0 .0 .1 .0 }, tt)))) $
         returns ! (look ! 9 refl) $ forget ! 3 refl $ forget ! 5 refl $ forget ! 7 refl $ forget ! 9 refl $
-        move ! (9 ∷ 10 ∷ []) $ free1 ! $ move ! (7 ∷ 8 ∷ []) $ free1 ! $ move ! (5 ∷ 6 ∷ []) $ free1 ! $ move ! (3 ∷ 4 ∷ []) $ free1 ! $ free0 ! $ by ! (exits r u (e .1))))))))))
+        move ! (9 ∷ 10 ∷ []) $ free1 ! $ move ! (7 ∷ 8 ∷ []) $ free1 ! $ move ! (5 ∷ 6 ∷ []) $ free1 ! $ move ! (3 ∷ 4 ∷ []) $ free1 ! $ free0 ! $ by ! (exits r u (e .1, e .2))))))))))
 
 module _ {M : Type 1} (𝓤 : URA M) (H : Heap 𝓤) (A : Atoms 𝓤) (W : Given 𝓤 H A) (mem : Memory → SProp 𝓤) (run : Routine → Fun 𝓤) where
   open-body-walks : (C : Calls 𝓤 H) (Λ : Loops 𝓤 H) → FmC 𝓤 H (W .laws) C → Triple 𝓤 (C #job·opening·open) (Open 𝓤 H A mem run)
@@ -154,6 +160,6 @@ pub open-body-spec : {M : Type 1} → stated.statement M
 unfolding code.routine tablesOf
 open-body-spec 𝓤 H 𝓜 𝓖 𝓡 =
     entered 𝓤 H (tripleOf 𝓤 H (𝓖 .A) body.signature (body.spec 𝓤 H (𝓖 .A) (𝓜 .mem) (𝓡 .run)))
-    (tables 𝓤 H 𝓜 𝓡 code.env .C) (tables 𝓤 H 𝓜 𝓡 code.env .Λ) #job·opening·open-body code.function (code.unfolded 𝓤 H 𝓜 𝓡)
+    (tables 𝓤 H 𝓜 𝓡 code.env .C) (tables 𝓤 H 𝓜 𝓡 code.env .Λ) #job·inner·open-body code.function (code.unfolded 𝓤 H 𝓜 𝓡)
     (open-body-meets 𝓤 H (𝓖 .A) (givenOf 𝓤 H 𝓜 𝓖) (𝓜 .mem) (𝓡 .run) (tablesOf 𝓤 H 𝓜 (tables 𝓤 H 𝓜 𝓡 code.env))
     (cited 𝓤 H (Open 𝓤 H (𝓖 .A) (𝓜 .mem) (𝓡 .run)) 𝓜 𝓡 code.env #job·opening·open open-def.routine code.calls-job·opening·open (open-thm.met 𝓤 H 𝓜 𝓖 𝓡)))
