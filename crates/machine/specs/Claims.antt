@@ -27,7 +27,8 @@ FurtherHold = T (casesHold furtherCases)
 abbrev pub ChartHolds : Type 0
 ChartHolds = rows caseD 9 ≡ chartOfD
 
--- Two tests, of which instructions move and which stages will be free, keep document 01's sentences: these name no budget, only each other.
+-- `moves`, a test of instructions, and `willBeFree`, a test of stages, satisfy document 01's two sentences as equations: each is given by the other,
+-- and no budget is named.
 pub record KeepsSentences (trace : Trace) (places : Places) (moves : ℕ → Bool) (willBeFree : Stage → Bool) : Type 0 where
   -- "An instruction moves when its count is 0, it is ready and its next stage will be free. [..] an instruction in post stays there."
   pub moving :
@@ -38,10 +39,10 @@ pub record KeepsSentences (trace : Trace) (places : Places) (moves : ℕ → Boo
       and ready trace places i
       and willBeFree (next (instruction trace i .kind) (places i .stage)))
   -- "A stage will be free when it is empty or its occupant moves in this cycle; the occupant moves only if its own next stage will be free;
-  -- post is always free." Each instruction that stands there is an occupant, should there be several.
+  -- post is always free." Every instruction that stands there is an occupant; only where the places are not those of a run can there be several.
   pub freeing : (s : Stage) → willBeFree s ≡ (same s post or every (λ j. not (same (places j .stage) s) or moves j) (length trace))
 
--- The budget of `movesWithin` and `willBeFreeWithin` never decides: wherever the instructions stand, `moves` and `willBeFree` keep the sentences,
+-- The budget of `movesWithin` and `willBeFreeWithin` never decides: wherever the instructions stand, the rules' tests satisfy the sentences,
 abbrev pub BudgetNeverDecides : Type 0
 BudgetNeverDecides = (trace : Trace) (places : Places) → KeepsSentences trace places (moves trace places) (willBeFree trace places)
 
