@@ -20,8 +20,9 @@ pub record Passes (refusal : List ℕ → ℕ) (body : List ℕ) : Type 0 where
   pub passes : refusal body ≡ 0
 
 -- demand 3: "For every pair of accepted traces without unknown flags, alike in length, kinds and registers, where the second differs at most by hits
--- turned into misses, latencies made longer, or both, whichever and however many". In document 01: "Two traces that demand 3 compares have equally many instructions, alike in kind, both sources and target; a flag that is a hit in the first may
--- be a miss in the second, never the reverse; each of the three latencies is at least as long in the second."
+-- turned into misses, latencies made longer, or both, whichever and however many". Document 01: "Two traces that demand 3 compares have equally many
+-- instructions, alike in kind, both sources and target; a flag that is a hit in the first may be a miss in the second, never the reverse; each of the
+-- three latencies is at least as long in the second."
 pub record Compared (first second : List ℕ) : Type 0 where
   pub first-passes : Passes settledRefusal first
   pub second-passes : Passes settledRefusal second
@@ -86,7 +87,7 @@ calls =
       worst = λ body. bestWorstAnswer body .worst;
     }
 
--- a trace, as a settling of the body's, is the trace of a body that no call refuses
+-- a settling of the body's trace is itself the trace of a body, which no call refuses
 pub record Embodied (body : List ℕ) (settling : Trace) : Type 0 where
   pub encoding : List ℕ
   pub settles : SettlingOf body encoding
