@@ -6,7 +6,7 @@ use mathlib.Core.Path.{_≡_, refl, sym, ap, _∙_}
 use native.Mathlib.Omega.{arith}
 use lib.ListN.{length}
 use Rattle.machine.specs.Instruction.{Trace, instruction}
-use Rattle.machine.specs.Rules.{Stage, rank, Place, Places, entry, budget, movesWithin, moves, cycle, allPre, after}
+use Rattle.machine.specs.Rules.{Stage, Place, Places, entry, budget, movesWithin, moves, cycle, allPre, after}
 use Rattle.machine.proofs.Numbers.{Tri, less, equal, more, tri, Last, before, at, last}
 use Rattle.machine.proofs.Connectives.{Value, passed, failed, value, clash}
 use Rattle.machine.proofs.Schedule.{Behaviour, enters, done, starts, own}
@@ -27,7 +27,7 @@ module _ (trace : Trace) where
     unfolding moves budget
     moves-at {i} {s} d l st e =
         ap (λ (k : ℕ). movesWithin k trace places i)
-        (ap (λ (x : Stage). (6 - rank x) + (6 - rank x)) (stage-of trace t places described l st)
+        (ap budget (stage-of trace t places described l st)
         ∙ (let r = rank-stage (b .lane i) s (st .level) in let q = double-is d in omega arith))
 
     -- an instruction that does not move stays at its level, and its count falls

@@ -1,6 +1,7 @@
 pub mod Cases
 pub mod Connectives
 pub mod Stages
+pub mod Budget
 pub mod Orderly
 pub mod Places
 pub mod Spots

@@ -1,13 +1,14 @@
--- What is shown of the rules, as named types. `proofs/` has a term of each. The sentences are document 01's and, where it says so, demand 3's
--- (docs/CLAIMS.md).
+-- What is shown of the rules, as named types. `proofs/` has a term of each. The sentences are document 01's and, where it says so, the order's
+-- (docs/CLAIMS.md has its three demands).
 use Prim.Native.Nat.{ℕ, _+_, _≤_, _<_}
-use mathlib.Core.Bool.{true, false}
+use mathlib.Core.Bool.{Bool, true, false, not}
 use mathlib.Core.Logic.{_↔_}
 use mathlib.Core.Path.{_≡_}
-use lib.Dec.{T}
+use lib.Dec.{T, eqb}
 use lib.ListN.{length}
+use Rattle.machine.specs.Test.{_and_, _or_, every}
 use Rattle.machine.specs.Instruction.{hit, miss, Trace, instruction}
-use Rattle.machine.specs.Rules.{further, cycle, after, allLeft}
+use Rattle.machine.specs.Rules.{Stage, post, next, same, Places, further, ready, moves, willBeFree, cycle, after, allLeft}
 use Rattle.machine.specs.Time.{bound, finish, Settling, Known, settle, best, worst}
 use Rattle.machine.specs.Order.{Slower, SameFlags, added}
 use Rattle.machine.specs.Cases.{cases, further as furtherCases, casesHold, caseD, rows, chartOfD}
@@ -26,7 +27,33 @@ FurtherHold = T (casesHold furtherCases)
 abbrev pub ChartHolds : Type 0
 ChartHolds = rows caseD 9 ≡ chartOfD
 
--- The finishing time is a number of cycles after which all have left, and the least.
+-- `moves`, a test of instructions, and `willBeFree`, a test of stages, satisfy document 01's two sentences as equations: each is given by the other,
+-- and no budget is named.
+pub record KeepsSentences (trace : Trace) (places : Places) (moves : ℕ → Bool) (willBeFree : Stage → Bool) : Type 0 where
+  -- "An instruction moves when its count is 0, it is ready and its next stage will be free. [..] an instruction in post stays there."
+  pub moving :
+      (i : ℕ) →
+      moves i
+      ≡ (not (same (places i .stage) post)
+      and eqb (places i .count) 0
+      and ready trace places i
+      and willBeFree (next (instruction trace i .kind) (places i .stage)))
+  -- "A stage will be free when it is empty or its occupant moves in this cycle; the occupant moves only if its own next stage will be free;
+  -- post is always free." Every instruction that stands there is an occupant; only where the places are not those of a run can there be several.
+  pub freeing : (s : Stage) → willBeFree s ≡ (same s post or every (λ j. not (same (places j .stage) s) or moves j) (length trace))
+
+-- The budget of `movesWithin` and `willBeFreeWithin` never decides: wherever the instructions stand, the rules' tests satisfy the sentences,
+abbrev pub BudgetNeverDecides : Type 0
+BudgetNeverDecides = (trace : Trace) (places : Places) → KeepsSentences trace places (moves trace places) (willBeFree trace places)
+
+-- and no other tests do, so that the sentences alone say who moves.
+abbrev pub SentencesDecide : Type 0
+SentencesDecide =
+    (trace : Trace) (places : Places) (moving : ℕ → Bool) (free : Stage → Bool) →
+    KeepsSentences trace places moving free →
+    ((i : ℕ) → moving i ≡ moves trace places i) × ((s : Stage) → free s ≡ willBeFree trace places s)
+
+-- demand 2: "the finishing time is the least number of cycles after which all have left": after it all have, and after no fewer
 abbrev pub FinishIsLeast : Type 0
 FinishIsLeast =
     (trace : Trace) →
@@ -36,18 +63,20 @@ FinishIsLeast =
 abbrev pub FinishBounded : Type 0
 FinishBounded = (trace : Trace) → finish trace ≤ bound trace
 
--- demand 3: "no instruction is ever further on in the second", and so it finishes no earlier
+-- demand 3: "after every number of cycles from the start, no instruction is further on in the second than in the first, so the second never
+-- finishes earlier."
 abbrev pub Ordered : Type 0
 Ordered =
     (first second : Trace) →
     Slower first second →
     ((t i : ℕ) → i < length first → further (after second t i) (after first t i) ≡ false) × (finish first ≤ finish second)
 
--- demand 3: "where only latencies differ it finishes later by at most what was added"
+-- demand 3: "Where only latencies differ, it finishes later by at most the sum of what was added."
 abbrev pub AddedAtMost : Type 0
 AddedAtMost = (first second : Trace) → Slower first second → SameFlags first second → finish second ≤ finish first + added first second
 
--- demand 3: "no settling of its unknown flags finishes later than the worst time given or earlier than the best, and both are attained"
+-- demand 3: "no settling of them finishes later than the worst time given or earlier than the best time given, and each of these two is the
+-- finishing time of some settling."
 abbrev pub SettlingsEnclosed : Type 0
 SettlingsEnclosed =
     (trace : Trace) →

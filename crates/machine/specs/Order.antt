@@ -4,7 +4,8 @@ use mathlib.Core.List.{[], _∷_}
 use mathlib.Core.Path.{_≡_}
 use Rattle.machine.specs.Instruction.{Flag, hit, miss, Instruction, Trace}
 
--- "a flag that is a hit in the first may be a miss in the second, never the reverse"; demand 3 is about traces without unknown flags
+-- "a flag that is a hit in the first may be a miss in the second, never the reverse"; demand 3 is for "every pair of accepted traces without
+-- unknown flags"
 pub data FlagTo : Flag → Flag → Type 0 where
   hit-hit : FlagTo hit hit
   hit-miss : FlagTo hit miss
@@ -27,7 +28,7 @@ pub data Slower : Trace → Trace → Type 0 where
   slower-none : Slower [] []
   slower-more : {a b : Instruction} {first second : Trace} → SlowerInstruction a b → Slower first second → Slower (a ∷ first) (b ∷ second)
 
--- demand 3: "where only latencies differ": the flags agree too
+-- demand 3: "Where only latencies differ": the flags agree too
 pub data SameFlags : Trace → Trace → Type 0 where
   same-none : SameFlags [] []
   same-more : {a b : Instruction} {first second : Trace} → b .fetch ≡ a .fetch → b .access ≡ a .access → SameFlags first second → SameFlags (a ∷ first) (b ∷ second)

@@ -158,7 +158,7 @@ unfoldable pub ready : Trace → Places → ℕ → Bool
 ready trace places i = readyIn (places i .stage) trace places i
 
 -- How far a stage is from post. "Moves" and "will be free" call each other with this distance falling; each call takes one from a budget of
--- twice the distance, which never runs out before post.
+-- twice the distance. The budget is 0 only in post, where an instruction stays; elsewhere it never decides (`BudgetNeverDecides`).
 unfoldable pub budget : Stage → ℕ
 budget s = (6 - rank s) + (6 - rank s)
 
@@ -180,6 +180,9 @@ unfoldable mutual
 
 unfoldable pub moves : Trace → Places → ℕ → Bool
 moves trace places i = movesWithin (budget (places i .stage)) trace places i
+
+unfoldable pub willBeFree : Trace → Places → Stage → Bool
+willBeFree trace places s = willBeFreeWithin (suc (budget s)) trace places s
 
 -- "Otherwise a count above 0 falls by 1 and a count of 0 stays."
 unfoldable pub cycle : Trace → Places → Places

@@ -3,3 +3,4 @@ pub mod Seating
 pub mod RunPass
 pub mod Stops
 pub mod RunAnswer
+pub mod RunPlaces

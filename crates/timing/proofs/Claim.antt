@@ -1,22 +1,22 @@
 -- Demand 3: of the rules it is what the machine's theory shows, at the traces of bodies; the calls answer what the rules give for every body that
--- they do not refuse, and a run may stop at its finishing time.
+-- they do not refuse, and a run may stop at its finishing time. The body of a settling is its encoding.
 use Prim.Native.Nat.{ℕ, _<_}
 use mathlib.Core.List.{List}
-use mathlib.Core.Path.{_≡_, ap, sym, _∙_}
+use mathlib.Core.Path.{_≡_, ap, sym, subst, _∙_}
 use native.Mathlib.Omega.{arith}
 use borrow.Author.Tests.{eq-eqb}
 use Rattle.machine.specs.Instruction.{Flag, hit, miss, unknown}
-use Rattle.machine.specs.Time.{Settled, unknown-hits, unknown-misses, finish, settle, best, worst}
+use Rattle.machine.specs.Time.{Settled, unknown-hits, unknown-misses, Settling, finish, settle, best, worst}
 use Rattle.machine.proofs.RunStates.{run-stops-places}
 use Rattle.machine.proofs.Slower.{slower-length, ordered}
 use Rattle.machine.proofs.Longer.{added-at-most}
 use Rattle.machine.proofs.Settlings.{settlings-enclosed}
-use Rattle.record.specs.Body.{records, traceOf, settledBody, bodyRefusal, settledRefusal}
+use Rattle.record.specs.Body.{records, traceOf, bodyOf, settledBody, bodyRefusal, settledRefusal}
 use Rattle.running.specs.Run.{ranFor, runAnswer}
 use Rattle.timing.specs.Answers.{finishAnswer, bestWorstAnswer}
-use Rattle.timing.specs.Claim.{Passes, Compared, Attained, Holds, rules, calls, Demand3}
+use Rattle.timing.specs.Claim.{Passes, Compared, Attained, Holds, rules, calls, SettlingsCovered, Demand3}
 use Rattle.record.proofs.Encoding.{length-traceOf}
-use Rattle.record.proofs.SettledBody.{settled-body-bytes, settled-body-passes, settled-body-decoded, settled-body-settles}
+use Rattle.record.proofs.SettledBody.{settlings-are-bodies, settled-body-bytes, settled-body-passes, settled-body-decoded, settled-body-settles}
 
 -- the body with every unknown flag made one flag attains its trace's time
 attained : (to : Flag) → Settled unknown to → (body : List ℕ) → Passes bodyRefusal body → Attained rules body (finish (settle to (traceOf body)))
@@ -99,5 +99,18 @@ calls-hold =
       worstAttained = λ body p. answered body (worst-answered body p) (rules-hold .worstAttained body p);
     }
 
+settlings-covered : SettlingsCovered
+settlings-covered body p settling h =
+    let is-body = settlings-are-bodies body (p .bytes) (p .passes) settling h in
+    record {
+      encoding = bodyOf settling;
+      settles =
+          record {
+            passes = record { bytes = is-body .0; passes = is-body .1 };
+            settles = subst (Settling (traceOf body)) (sym (is-body .2)) h;
+          };
+      decodes = is-body .2;
+    }
+
 pub demand-3 : Demand3
-demand-3 = (rules-hold, calls-hold)
+demand-3 = (rules-hold, calls-hold, settlings-covered)
