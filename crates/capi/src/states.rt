@@ -18,15 +18,7 @@ pub extern "C" fn sic_start() -> State
 pub extern "C" fn sic_step(body: &[u8], s: State) -> Stepped
     ensures { λ r. ⌜ r ≡ stepAnswer (now (body .entry)) s ⌝ }
 {
-    inplace::advanced(s, body)
-}
-
-// Step in the caller's own storage: the state is stored, or stays on a refusal.
-#[no_mangle]
-pub extern "C" fn sic_advance(s: &mut State, body: &[u8]) -> u32
-    ensures { λ r. ⌜ (r ≡ stepAnswer (now (body .entry)) (now (s .entry)) .refusal) × (now (s .exit) ≡ stepAnswer (now (body .entry)) (now (s .entry)) .state) ⌝ }
-{
-    inplace::advance(s, body)
+    pipeline::step(body, s)
 }
 
 #[no_mangle]

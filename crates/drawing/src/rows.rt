@@ -7,9 +7,9 @@ ghost use Rattle.machine.specs.Time.{settle};
 ghost use Rattle.record.specs.Body.{traceOf, bodyRefusal};
 ghost use Rattle.text.specs.Text.{Wrote};
 ghost use Rattle.drawing.specs.Chart.{slotText, rowText, rowsText};
-use inplace::next_worst;
 use machine::Slot;
 use machine::State;
+use pipeline::next_worst;
 use text::put_byte;
 use text::put_decimal;
 

@@ -1,16 +1,15 @@
 -- Step: document 01, "What each call does and when it declines". "Step gives the state one cycle on: 10, 8, 11 an unknown flag, 12 state not
 -- orderly. A refusal returns the given state."
 use Prim.Native.Nat.{ℕ}
-use mathlib.Core.Bool.{Bool, cond}
+use mathlib.Core.Bool.{cond}
 use mathlib.Core.List.{List}
 use lib.Dec.{eqb}
-use Rattle.machine.specs.Instruction.{Trace, miss}
+use Rattle.machine.specs.Instruction.{Trace}
 use Rattle.machine.specs.Rules.{cycle}
 use Rattle.machine.specs.State.{placeOf, stateOf, orderly}
-use Rattle.machine.specs.Time.{settle}
 use Rattle.machine.specs.declared.State.{State}
 use Rattle.record.specs.Refusal.{_then_, _unless_}
-use Rattle.record.specs.Body.{traceOf, lengthRefusal, settledRefusal}
+use Rattle.record.specs.Body.{traceOf, settledRefusal}
 use Rattle.pipeline.specs.declared.stepping.Stepped.{Stepped}
 
 -- "12 state not orderly"
@@ -30,11 +29,3 @@ onward refusal trace s =
 
 unfoldable pub stepAnswer : List ℕ → State → Stepped
 stepAnswer body s = onward (stepRefusal body s) (traceOf body) s
-
--- One cycle of the chart "with unknowns as misses": its body's records are known to keep their rules, so that only the length is tested.
-unfoldable pub worstRefusal : List ℕ → State → ℕ
-worstRefusal body s = lengthRefusal body then notOrderly unless orderly (settle miss (traceOf body)) s
-
--- Step, or where the records are known to keep their rules a cycle of the chart
-unfoldable pub stepAs : Bool → List ℕ → State → Stepped
-stepAs lawful body s = cond lawful (onward (worstRefusal body s) (settle miss (traceOf body)) s) (stepAnswer body s)

@@ -10,11 +10,11 @@ ghost use Rattle.machine.specs.Rules.{pre};
 ghost use Rattle.machine.proofs.Stages.{stageAt};
 ghost use Rattle.machine.proofs.BySlots.{heldBack, occupied, storeInMEM, leaves, slotAfter, stepBySlots};
 ghost use Rattle.record.specs.Rules.{instructionOf};
-ghost use Rattle.record.specs.Body.{traceOf, lengthRefusal, settledRefusal};
+ghost use Rattle.record.specs.Body.{traceOf, lengthRefusal};
 ghost use Rattle.pipeline.specs.Reads.{Reads};
 ghost use Rattle.pipeline.specs.Bits.{bitsOf, pendingIn, opens, starts};
 ghost use Rattle.pipeline.specs.Standstill.{standstill};
-ghost use Rattle.pipeline.specs.Step.{stepAnswer, stepAs};
+ghost use Rattle.pipeline.specs.Step.{stepAnswer};
 use crate::hazards::held_back;
 use crate::hazards::pending_slots;
 use crate::moving::Bits;
@@ -29,13 +29,11 @@ use crate::reading::entry_MEM;
 use crate::reading::entry_ST;
 use crate::reading::less_one;
 use crate::reading::read_stages;
-use crate::reading::with_misses;
 use crate::refusal::NOT_ORDERLY;
 use machine::Slot;
 use machine::State;
 use record::Fields;
 use record::layout::RECORD_SIZE;
-use record::length_refusal;
 use record::settled_refusal;
 
 #[repr(C)]
@@ -193,7 +191,7 @@ fn all_stay(s: State) -> State
     }
 }
 
-fn cycle(n: u32, s: State, w: Standing) -> State
+pub(crate) fn cycle(n: u32, s: State, w: Standing) -> State
     requires { ⌜ s .fetched ≤ 4096 ⌝ }
     ensures { λ r. ⌜ ((trace : Trace) → Reads trace s w → length trace ≡ n → r ≡ stepBySlots trace s) ⌝ }
 {
@@ -207,30 +205,17 @@ fn cycle(n: u32, s: State, w: Standing) -> State
 }
 
 // How many instructions a body of lawful length holds.
-fn records(body: &[u8]) -> u32
+pub(crate) fn records(body: &[u8]) -> u32
     requires { ⌜ lengthRefusal (now body) ≡ 0 ⌝ }
     ensures { λ r. ⌜ (length (traceOf (now (body .entry))) ≡ r) × (r ≤ 4096) ⌝ }
 {
     (body.len() / RECORD_SIZE) as u32
 }
 
-// The body's own refusal; where its records are known to keep their rules, that of its length.
-fn body_fault(body: &[u8], lawful: bool) -> u32
-    ensures { λ r. ⌜ r ≡ cond lawful (lengthRefusal (now (body .entry))) (settledRefusal (now (body .entry))) ⌝ }
+pub fn step(body: &[u8], s: State) -> Stepped
+    ensures { λ r. ⌜ r ≡ stepAnswer (now (body .entry)) s ⌝ }
 {
-    if lawful {
-        return length_refusal(body);
-    }
-    settled_refusal(body)
-}
-
-// One cycle on, unknown flags taken as misses: Step accepts none. Step and a chart's rows go through
-// this one function. In the library for other languages only `inplace::advance_as` calls it, so that
-// a whole cycle is compiled into that.
-pub fn step_as(body: &[u8], s: State, lawful: bool) -> Stepped
-    ensures { λ r. ⌜ r ≡ stepAs lawful (now (body .entry)) s ⌝ }
-{
-    let fault = body_fault(body, lawful);
+    let fault = settled_refusal(body);
     if fault != 0 {
         return Stepped {
             refusal: fault,
@@ -238,7 +223,7 @@ pub fn step_as(body: &[u8], s: State, lawful: bool) -> Stepped
         };
     }
     let n = records(body);
-    let w = with_misses(read_stages(body, s));
+    let w = read_stages(body, s);
     if orderly(n, s, w) {
         return Stepped {
             refusal: 0,
@@ -249,10 +234,4 @@ pub fn step_as(body: &[u8], s: State, lawful: bool) -> Stepped
         refusal: NOT_ORDERLY,
         state: s,
     }
-}
-
-pub fn step(body: &[u8], s: State) -> Stepped
-    ensures { λ r. ⌜ r ≡ stepAnswer (now (body .entry)) s ⌝ }
-{
-    step_as(body, s, false)
 }

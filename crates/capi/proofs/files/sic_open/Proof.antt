@@ -23,9 +23,9 @@ returns c =
     let file = c .before .before .before .args .file .now in
     let found = c .before .locate .ensures in
     let at = located file (c .before .before .before .args .trace) _ found in
-    let body = c .cut .ensures ∙ at .1 in (
+    let body = c .cut .ensures .0 ∙ at .1 in (
       λ i. record { refusal = at .0 i; start = ap (λ (l : Located). l .start) found i; length = ap (λ (l : List ℕ). length l) body i },
-      ap (λ (l : List ℕ). take (length l) (drop (c .before .locate .result .start) file)) (c .cut .ensures) ∙ part-taken file _ _ ∙ at .1,
+      ap (λ (l : List ℕ). take (length l) (drop (c .before .locate .result .start) file)) (c .cut .ensures .0) ∙ part-taken file _ _ ∙ at .1,
     )
 
 pub sic-open-spec : {M : Type 1} → statement M

@@ -35,13 +35,13 @@ cut-requires : tie.Need-cut-requires
 cut-requires c κs = search needs
 
 draw-body-requires : tie.Need-draw-body-requires
-draw-body-requires c κs = let file = c .before .before .before .before .before .before .before .before .args .file .now in let at = located file 0 _ (c .before .before .before .before .locate .ensures) in (ap bodyRefusal (c .before .cut .ensures ∙ at .1) ∙ opened-accepted file 0 (sym (at .0) ∙ c .before .before .if2 .left), c .before .before .before .before .before .if1 .left)
+draw-body-requires c κs = let file = c .before .before .before .before .before .before .before .before .args .file .now in let at = located file 0 _ (c .before .before .before .before .locate .ensures) in (ap bodyRefusal (c .before .cut .ensures .0 ∙ at .1) ∙ opened-accepted file 0 (sym (at .0) ∙ c .before .before .if2 .left), c .before .before .before .before .before .if1 .left)
 
 same-length-2 : tie.Need-same-length-2
 same-length-2 c = search needs
 
 returns-3 : tie.Need-returns-3
-returns-3 c = let file = c .before .before .before .before .before .before .before .before .before .before .before .args .file .now in let at = located file 0 _ (c .before .before .before .before .before .before .before .locate .ensures) in drawn _ _ (c .before .before .before .before .before .before .before .before .if1 .left) (ap (λ (body : List ℕ). chartOf (traceOf body)) (c .before .before .before .before .cut .ensures ∙ at .1) ∙ sym (chart-given file (sym (at .0) ∙ c .before .before .before .before .before .if2 .left))) (c .before .before .draw-body .ensures)
+returns-3 c = let file = c .before .before .before .before .before .before .before .before .before .before .before .args .file .now in let at = located file 0 _ (c .before .before .before .before .before .before .before .locate .ensures) in drawn _ _ (c .before .before .before .before .before .before .before .before .if1 .left) (ap (λ (body : List ℕ). chartOf (traceOf body)) (c .before .before .before .before .cut .ensures .0 ∙ at .1) ∙ sym (chart-given file (sym (at .0) ∙ c .before .before .before .before .before .if2 .left))) (c .before .before .draw-body .ensures)
 
 pub draw-spec : {M : Type 1} → statement M
 draw-spec =

@@ -21,7 +21,7 @@ use Rattle.drawing.proofs.rows.put_rows.Reads as reads
 use Rattle.drawing.proofs.rows.put_rows.Lts as lts
 use Rattle.drawing.proofs.rows.put_row.Reads as put-row-reads
 use Rattle.machine.proofs.State.start.Reads as start-reads
-use Rattle.inplace.proofs.next_worst.Reads as next-worst-reads
+use Rattle.pipeline.proofs.next_worst.Reads as next-worst-reads
 
 abbrev Inv-loop : tie.InvT-loop
 Inv-loop body out₀ at last s₀ next₀ cycle₀ out s next cycle = let trace = settle miss (traceOf body) in (cycle ≤ suc last) × (s ≡ stateAfter trace cycle) × (length out ≡ length out₀) × Wrote at (rowsText trace cycle) out₀ out next

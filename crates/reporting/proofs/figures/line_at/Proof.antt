@@ -25,11 +25,11 @@ cut-requires : tie.Need-cut-requires
 cut-requires c κs = search needs
 
 line-of-requires : tie.Need-line-of-requires
-line-of-requires c κs = let a = c .before .before .before .before .before .args in ap bodyRefusal (c .cut .ensures ∙ located (a .file .now) (a .t) _ (c .before .before .locate .ensures) .1) ∙ opened-accepted (a .file .now) (a .t) (c .before .before .before .before .before .pre)
+line-of-requires c κs = let a = c .before .before .before .before .before .args in ap bodyRefusal (c .cut .ensures .0 ∙ located (a .file .now) (a .t) _ (c .before .before .locate .ensures) .1) ∙ opened-accepted (a .file .now) (a .t) (c .before .before .before .before .before .pre)
 
 returns : tie.Need-returns
 unfolding lineAt
-returns c = let a = c .before .before .before .before .before .before .args in c .line-of .ensures ∙ ap₂ (λ (body : List ℕ) (deadline : ℕ). lineOf (a .t) (traceOf body) deadline) (c .before .cut .ensures ∙ located (a .file .now) (a .t) _ (c .before .before .before .locate .ensures) .1) (c .before .before .deadline-at .ensures)
+returns c = let a = c .before .before .before .before .before .before .args in c .line-of .ensures ∙ ap₂ (λ (body : List ℕ) (deadline : ℕ). lineOf (a .t) (traceOf body) deadline) (c .before .cut .ensures .0 ∙ located (a .file .now) (a .t) _ (c .before .before .before .locate .ensures) .1) (c .before .before .deadline-at .ensures)
 
 pub line-at-spec : {M : Type 1} → statement M
 line-at-spec =
