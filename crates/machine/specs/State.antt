@@ -34,7 +34,7 @@ slot s post = emptySlot
 unfoldable pub holds : Slot → ℕ → Bool
 holds slot i = slot .filled and eqb (slot .index) i
 
--- i's place where the stage's slot holds it, else the other place
+-- i's place if the stage's slot holds it, else the other place
 placeIn : State → ℕ → Stage → Place → Place
 placeIn s i stage other = cond (holds (slot s stage) i) (record { stage = stage; count = slot s stage .count }) other
 
@@ -72,7 +72,7 @@ stateOf trace places =
       WB = occupantBelow places WB (length trace);
     }
 
--- how many slots among IF to MEM are filled before a stage; before ST and WB these are document 01's m
+-- how many of the slots IF to MEM that come before a stage are filled; for ST and WB this is document 01's m
 filled : Slot → ℕ
 filled slot = cond (slot .filled) 1 0
 
@@ -113,7 +113,7 @@ pub record Orderly (trace : Trace) (s : State) : Type 0 where
   pub aStore : s .ST .filled ≡ true → isStore (instruction trace (s .ST .index) .kind) ≡ true
   pub counted : (stage : Stage) → Counted trace s stage
 
--- The same as tests.
+-- The same, as tests that compute.
 inTurn : State → Stage → Bool
 inTurn s stage = not (slot s stage .filled) or eqb (slot s stage .index + younger s stage + 1) (s .fetched)
 
