@@ -2,7 +2,7 @@
 
 // A record breaks its rules.
 pub const BROKEN_RECORD: u32 = 8;
-// There is no such instruction in the body, or no such trace in the file.
+// An index is not below what it counts: an instruction of a body, a trace of a file.
 pub const OUT_OF_RANGE: u32 = 9;
 // A body's length is not ten times a number up to 4,096.
 pub const WRONG_LENGTH: u32 = 10;
