@@ -78,8 +78,8 @@ pub fn count_in_last(f: Fields) -> u32
     choose(is_store(f) & (f.access == 1), less(f.data_latency, 1), 0)
 }
 
-// How many cycles it spends in its last stage at least, one more than its count there: for a store
-// that misses its data latency, which is at least 1.
+// How many cycles it spends in its last stage, one more than its count there: for a store that
+// misses, its data latency, which is at least 1.
 pub fn cycles_in_last(f: Fields) -> u32
     requires { ⌜ Lawful (instructionOf f) ⌝ }
     ensures { λ r. ⌜ r ≡ lastCount (instructionOf f) + 1 ⌝ }
