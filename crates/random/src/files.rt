@@ -33,7 +33,7 @@ fn low(n: u32) -> u16 {
     (n % 65536) as u16
 }
 
-// Three counts that share n instructions out.
+// Three counts that add up to n.
 fn shares(n: u32, d: Dice) -> [u16; 3] {
     let a = part(d, 5, n as u64 + 1);
     if a > n {
@@ -75,7 +75,7 @@ fn few<'a>(counts: &'a [u16], n: usize) -> &'a [u16] {
     counts
 }
 
-// An output of 20 bytes has room for three empty traces alone.
+// An output of 20 bytes has room for three empty traces and nothing more.
 fn short_write(counts: &[u16], records: &[u8]) -> u32 {
     let mut out = [0u8; 20];
     let answer = write(counts, records, &mut out);
@@ -102,14 +102,14 @@ pub fn written(records: &[u8], n: usize, d: Dice) -> File {
     }
 }
 
-// 65,537 bytes are too many to open.
+// A file of 65,537 bytes, one too many to open.
 fn long_file_agrees() -> bool {
     let file = [0u8; 65537];
     let all: &[u8] = &file;
     opens_alike(all, 0)
 }
 
-// And 6,553 records too many to write.
+// 6,553 records, too many to write.
 fn long_records_agree() -> bool {
     let records = [0u8; 65530];
     let all: &[u8] = &records;

@@ -43,7 +43,7 @@ fn step_agrees(body: &[u8], s: State, t: Trace, p: Places) -> bool {
     stepped.refusal == 0 && same_state(stepped.state, t, p)
 }
 
-// How many rows Step makes of a trace, of which a million is never reached.
+// How many rows are compared; the cap of a million is never reached.
 fn stepped_rows(finish: u32) -> u32 {
     if finish < 1000000 {
         return finish + 1;
