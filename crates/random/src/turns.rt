@@ -123,7 +123,7 @@ pub fn unknown_turn(draft: Draft, tally: Tally) -> Tally {
     margin_turn(body, times.worst, draft.dice, t)
 }
 
-// A job file of the trace as it was written.
+// A job file as Write made it.
 fn opened_turn(file: &[u8], tally: Tally) -> Tally {
     let mut t = held(seen(tally, refusal_at(file, 3)), file_agrees(file));
     t.files = more(t.files, 1);
@@ -147,7 +147,7 @@ fn both_turns(file: File, d: Dice, tally: Tally) -> Tally {
     damaged_turn(first(rest, hurt.length), t)
 }
 
-// A job file of the trace; where Write refuses there is none.
+// A job file of the trace, unless Write refuses to make one.
 pub fn file_turn(draft: Draft, tally: Tally) -> Tally {
     let n = length_of(draft);
     let bytes = draft.bytes;
