@@ -102,7 +102,7 @@ unfolding freeAt budget
 into-last going full true = refl
 into-last going full false = refl
 
--- the two at the full budget, as equations in which the budget does not appear: so the code's functions call each other
+-- the two at the full budget, as equations in which the budget does not appear, which is how the code's functions call each other
 module _ (going full : Stage → Bool) (inMEM : Bool) where
   pub moves-at : (k : Stage) → same k post ≡ false → movesAt going full inMEM k ≡ going k and freeAt going full inMEM (nextIn inMEM k)
   unfolding movesAt freeAt budget movesIn nextIn

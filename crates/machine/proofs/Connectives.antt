@@ -1,5 +1,4 @@
--- Laws of the connectives of tests, which do not unfold by themselves. Each law takes its tests as explicit arguments, so that a use reads `and-l _
--- _ e`.
+-- Laws of the connectives of tests, which do not unfold by themselves. Each law takes its tests as explicit arguments, as in `and-l _ _ e`.
 use Prim.Native.Nat.{ℕ, zero, suc, _<_}
 use native.Mathlib.Omega.{arith}
 use mathlib.Core.Bool.{Bool, true, false, not, true≢false, false≢true}

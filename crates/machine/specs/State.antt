@@ -53,13 +53,14 @@ unfoldable pub fetchedBelow : Places → ℕ → ℕ
 fetchedBelow places zero = 0
 fetchedBelow places (suc n) = cond (same (places n .stage) pre) (fetchedBelow places n) (suc (fetchedBelow places n))
 
--- the slot of a stage: the instruction below n that is in it
+-- the slot of a stage: the instruction below n that is in it, the youngest if there were several
 unfoldable pub occupantBelow : Places → Stage → ℕ → Slot
 occupantBelow places stage zero = emptySlot
 occupantBelow places stage (suc n) =
     cond (same (places n .stage) stage) (record { filled = true; index = n; count = places n .count }) (occupantBelow places stage n)
 
--- the state that gives every instruction its place
+-- The state that places give. It gives every instruction its place again if no stage has two and the fetched ones come first, which a cycle keeps
+-- (`CycleGivesPlaces`).
 unfoldable pub stateOf : Trace → Places → State
 stateOf trace places =
     record {
