@@ -78,7 +78,7 @@ fn slot_pending(level: u32, held: Slot, kind: u32) -> bool
     held.filled & pending(kind, level, held.count)
 }
 
-// Which slots hold a pending instruction, for all that may wait in this cycle.
+// Which slots hold a pending instruction, found once for all that may wait in this cycle.
 pub(crate) fn pending_slots(s: State, w: Standing) -> Bits
     ensures { λ r. ⌜ ((trace : Trace) → Reads trace s w → r ≡ bitsOf (pendingIn trace s)) ⌝ }
 {

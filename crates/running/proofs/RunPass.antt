@@ -82,7 +82,7 @@ module _ {body : List ℕ} {limit k : ℕ} {before : Window} {seats : List ℕ} 
             state = record { long = grown .long; state = grown .state ∙ rw (place-is, here .2 .state .state) (sym (state-grows (after trace limit) k)) };
           }
 
--- if an instruction has left by the limit, and so have all before it, then one more has left
+-- if the first k instructions have left by the limit, and so has instruction k, then the first k + 1 have
 pub goes
     : {body : List ℕ} {limit k : ℕ} {before slid : Window} {read : Read} {times : Times} (bytes : Bytes body) →
     (bodyRefusal body ≡ 0) × (k < records body) × Passed body limit k before (leftSeats k) →
