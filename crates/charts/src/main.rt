@@ -1,5 +1,5 @@
-// Draws each job file that the arguments name and holds the text to the chart beside it: the
-// arguments are pairs, a job file and its chart.
+// Draws each job file that the arguments name and compares the text with its chart: the arguments
+// are pairs, a job file and its chart.
 ghost use Rattle.io.specs.Counts.{Counts};
 use drawing::draw;
 use libc::STDOUT_FILENO;
@@ -18,7 +18,7 @@ fn same(a: &[u8], b: &[u8]) -> bool {
     true
 }
 
-// Puts the file that argument i names at the start of `into`, and answers how long it is.
+// Reads the file that argument i names to the start of `into`, and gives its length.
 fn read_named(i: usize, into: &mut [u8]) -> usize
     ensures { λ r. ⌜ Counts r (now (into .exit)) ⌝ }
 {

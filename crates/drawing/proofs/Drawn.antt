@@ -1,4 +1,4 @@
--- What `draw` leaves in its output is the chart, or as it was where the output is short.
+-- What `draw` leaves in its output: the chart, or the output as it was where it is too short.
 use Prim.Native.Nat.{ℕ, _≤_, _<_}
 use mathlib.Core.List.{List}
 use mathlib.Core.Path.{_≡_, refl, sym, ap, _∙_}
@@ -54,7 +54,7 @@ inside file out (passed e) =
     rw e (omega arith)
 inside file out (failed e) = rw e (omega arith)
 
--- the chart lies in the output
+-- the chart fits the output
 pub chart-inside :
     (file out : List ℕ) {afterwards : List ℕ} {end : ℕ} →
     end ≡ chartLength file (length out) →

@@ -1,4 +1,4 @@
--- The lines of a chart: a slot's text by cases, and how long each piece is at most.
+-- The lines of a chart: a slot's text by cases, and upper bounds on the lengths of the pieces.
 use Prim.Native.Nat.{ℕ, zero, suc, _+_, _*_, _≤_, min}
 use mathlib.Core.Bool.{Bool, true, false}
 use mathlib.Core.List.{List, [], _∷_, _++_, append-assoc}
@@ -78,7 +78,7 @@ unfolding timesText
 times-is-short latest earliest =
     both (both (both (both (six 119 111 114 115 116 32) (number latest)) (six 32 98 101 115 116 32)) (number earliest)) (one 10)
 
--- the whole text is no longer than the output must be
+-- the whole text is no longer than the room that an output must have
 pub chart-short : (trace : Trace) → length (chartOf trace) ≤ longest
 unfolding chartOf
 chart-short trace =

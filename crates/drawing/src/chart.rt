@@ -1,4 +1,4 @@
-// The whole chart, or the line that tells a refusal.
+// The whole chart, or the line that gives a refusal.
 ghost use mathlib.Core.Path.{_≡_};
 ghost use Prim.Native.Nat.{_+_, _≤_, min};
 ghost use lib.ListN.{length};
@@ -20,7 +20,7 @@ use text::put_decimal;
 use text::put_text;
 use timing::best_worst;
 
-// Room for any chart: the header, 1,001 rows and the last line, a number taken as ten digits.
+// Room for any chart: the header, 1,001 rows and the last line, each number taken as ten digits.
 pub const CHART_BYTES: usize = 143201;
 
 const LAST_ROW: u32 = 1000;
@@ -61,8 +61,8 @@ fn draw_body(body: &[u8], out: &mut [u8]) -> usize
     put_times(out, end, times.worst, times.best)
 }
 
-// The chart's length in the output, whose bytes past it keep their values. An output with less room
-// than any chart may take stays as it is, and the length is 0.
+// Gives the chart's length in the output; bytes past it keep their values. An output with less room
+// than the longest chart may take stays as it is, and the length is 0.
 pub fn draw(file: &[u8], out: &mut [u8]) -> usize
     ensures { λ r. ⌜ (r ≡ chartLength (now (file .entry)) (length (now (out .entry)))) × (now (out .exit) ≡ chartOutput (now (file .entry)) (now (out .entry))) ⌝ }
 {

@@ -1,4 +1,4 @@
--- What a file that nothing declines has, and what its refusal is made of.
+-- What is known of a file that is not declined, and how its refusal is put together.
 use Prim.Native.Nat.{ℕ, zero, suc, _+_, _*_, _-_, _<_, _≤_}
 use mathlib.Core.Bool.{Bool, true, false}
 use mathlib.Core.List.{List, []}
@@ -60,7 +60,7 @@ file-fine file e =
       records = then-second _ _ e₃;
     }
 
--- the records from the table's end on, checked at once, give the last refusals of a file
+-- one check of all records after the table gives the refusal of all traces
 pub records-checked
     : (file : List ℕ) (count r : ℕ) →
     TableFine file →
@@ -81,7 +81,7 @@ records-checked file count r fine e ends said =
     ∙ joined file ends (fine .whole)
     ∙ rw (eq-eqb _ _ ends)
 
--- a body that is found ends within the longest file
+-- a body ends within the greatest length that a file may have
 pub body-fits : (file : List ℕ) → FileFine file → (t : ℕ) → t < traces file → offsetAt file t + recordSize * countAt file t ≤ maxFile
 body-fits file fine t l =
     let e = fine .entries t l .1 in
@@ -89,7 +89,7 @@ body-fits file fine t l =
     let s = fine .table .short in
     omega arith
 
--- what Open finds, by what declines
+-- what Open and `locate` give, by whether the file or the trace number is declined
 module _ (file : List ℕ) (trace : ℕ) where
   pub open-accepted : fileRefusal file ≡ 0 → trace < traces file → openRefusal file trace ≡ 0
   unfolding openRefusal _unless_

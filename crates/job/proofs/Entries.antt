@@ -1,4 +1,4 @@
--- Table entries: when an entry is refused, and what the entries of an unrefused table say.
+-- Table entries: when an entry is refused, and what is known of the entries of a table that is not refused.
 use Prim.Native.Nat.{ℕ, zero, suc, _+_, _*_, _<_, _≤_}
 use mathlib.Core.Bool.{Bool, true, false}
 use mathlib.Core.List.{List}

@@ -1,4 +1,4 @@
--- A scan that answers the first refusal, against `firstRefusal`.
+-- A scan that gives the first refusal gives `firstRefusal`.
 use Prim.Native.Nat.{ℕ, zero, suc, _+_, _<_, _≤_}
 use mathlib.Core.Logic.{⊎-elim}
 use mathlib.Core.Path.{_≡_, refl, sym, ap, subst, _∙_}

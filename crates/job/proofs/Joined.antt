@@ -26,7 +26,7 @@ unfolding _and_
 and-assoc true b c = refl
 and-assoc false b c = refl
 
--- a test below n + m is one below n and one of the m after
+-- a test of the numbers below n + m is a test of those below n and of the m after them
 none-split : (test : ℕ → Bool) (n m : ℕ) → none test (n + m) ≡ (none test n and none (λ k. test (n + k)) m)
 unfolding none every
 none-split test n zero = ap (every (λ k. not (test k))) (add-zero n) ∙ sym (and-true _)

@@ -62,7 +62,7 @@ module _ (file : List ℕ) (trace : ℕ) where
       (sym e)
       (by-refusal _ refl)
 
-  -- the body that Open hands back is accepted by every call that takes one
+  -- the body that Open hands back is accepted: neither 10 nor 8 refuses it
   pub opened-accepted : openRefusal file trace ≡ 0 → bodyRefusal (openBody file trace) ≡ 0
   unfolding openBody tracesRefusal bodyRefusal lengthRefusal _unless_
   opened-accepted e =

@@ -95,7 +95,7 @@ fn entries_of(file: &[u8], count: u32) -> Entries
     Entries { refusal: 0, end }
 }
 
-// 1 to 8: all that can decline a file but its trace number.
+// 1 to 8: everything that can decline a file, whichever trace is asked for.
 pub fn file_refusal(file: &[u8]) -> u32
     ensures { λ r. ⌜ r ≡ fileRefusal (now (file .entry)) ⌝ }
 {

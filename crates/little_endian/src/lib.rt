@@ -25,7 +25,7 @@ pub fn half_at(bytes: &[u8], at: usize) -> u32
     byte_at(bytes, at) + 256 * byte_at(bytes, at + 1)
 }
 
-// The same of any bytes: past the end there are zeros.
+// The same for any bytes: a byte past the end reads as 0.
 pub fn byte(bytes: &[u8], at: usize) -> u32
     ensures { λ r. ⌜ (r ≡ byte (now (bytes .entry)) at) × (r < 256) ⌝ }
 {

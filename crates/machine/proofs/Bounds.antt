@@ -1,5 +1,5 @@
--- How long anything takes: each level is entered at most after a cycle for each level of each instruction up to there, and their entry counts.
--- So the finishing time is at most document 01's sum, and that sum is small for traces within the format's limits.
+-- Upper bounds on times: a level is entered after at most one cycle for each level of each instruction up to there, plus their entry counts. So the
+-- finishing time is at most document 01's sum, and for traces within the format's limits that sum is at most 537,931,776.
 use Prim.Native.Nat.{ℕ, zero, suc, _+_, _*_, _≤_, _<_}
 use mathlib.Core.Bool.{Bool, true, false}
 use mathlib.Core.Path.{_≡_}
@@ -14,11 +14,11 @@ use Rattle.machine.proofs.Numbers.{by-age, sum, sum-mono}
 use Rattle.machine.proofs.Schedule.{Behaviour, Together, early, late, together, enters, done, starts, least}
 use Rattle.machine.proofs.Derivation.{countAt, fetchCount, dataCount, counts-are, behaviour}
 
--- an instruction's levels and entry counts up to a level
+-- the number of an instruction's levels up to a level, plus their entry counts
 unfoldable pub upTo : Behaviour → ℕ → ℕ → ℕ
 upTo b i s = s + sum (b .count i) s
 
--- the whole of the instructions before i
+-- all levels and entry counts of all instructions before i
 unfoldable pub olderCost : Behaviour → ℕ → ℕ
 olderCost b i = sum (λ j. upTo b j 6) i
 
@@ -26,7 +26,7 @@ up-to-mono : (b : Behaviour) (i s u : ℕ) → s ≤ u → upTo b i s ≤ upTo b
 unfolding upTo
 up-to-mono b i s u l = let p = sum-mono (b .count i) u s l in omega arith
 
--- a level of an older instruction
+-- what an older instruction takes up to a level is part of what all instructions before i take
 older-level : (b : Behaviour) (i j u : ℕ) → j < i → u ≤ 6 → olderCost b j + upTo b j u ≤ olderCost b i
 unfolding olderCost sum
 older-level b i j u l m = let p = sum-mono (λ j. upTo b j 6) i (suc j) l in let q = up-to-mono b j u 6 m in omega arith
@@ -58,7 +58,7 @@ bounded-step b i ih (suc s) l =
 pub enters-bounded : (b : Behaviour) (i : ℕ) → Bounded b i
 enters-bounded b = by-age (Bounded b) (bounded-step b)
 
--- An instruction's entry counts are its latencies or less.
+-- An instruction's entry counts are at most its latencies.
 fetch-count : (x : Bool) (n : ℕ) → fetchCount x n ≤ n
 fetch-count true n = omega arith
 fetch-count false n = omega arith
@@ -86,7 +86,7 @@ bound-step [] k l = absurd (omega arith)
 bound-step (i ∷ trace) zero l = omega arith
 bound-step (i ∷ trace) (suc k) l = let h = bound-step trace k (omega arith) in omega arith
 
--- the first k instructions cost at most their bound
+-- the first k instructions take at most their bound
 cost-bounded : (trace : Trace) (k : ℕ) → k ≤ length trace → olderCost (behaviour trace) k ≤ bound (take k trace)
 unfolding olderCost sum upTo behaviour bound
 cost-bounded trace zero l = omega arith

@@ -39,7 +39,7 @@ module _ (trace : Trace) where
         (let c = count-of trace t places described l st in let h = st .entered in omega arith)
         ∙ sym (scheduled-at st′))
 
-    -- one that moves enters the next level, with the whole entry count
+    -- one that moves enters the next level, with its entry count there
     go : {i s : ℕ} → i < length trace → s < 6 → Stands b t i s →
         enters b i (suc s) ≤ suc t →
         moves trace places i ≡ true →
@@ -54,7 +54,7 @@ module _ (trace : Trace) where
         ∙ omega arith)
         ∙ sym (scheduled-at {s = suc s} (record { level = omega arith; entered = en; stays = λ k. omega arith })))
 
-    -- the levels left to post
+    -- how many levels lie between a level and post
     left : (s : ℕ) → s < 6 → (d : ℕ) × (s + suc d ≡ 6)
     left s m = (5 - s, omega arith)
 

@@ -1,5 +1,5 @@
--- One cycle by slots, which is what the code computes: who could move, who moves, and what each slot holds afterwards. An older instruction
--- that holds another back stands in a slot, so the six slots are all that is looked at.
+-- One cycle in terms of the six slots, which is what the code computes: who could move, who moves, and what each slot holds afterwards. An older
+-- instruction that holds another back is in a slot, so it is enough to look at the slots.
 use Prim.Native.Nat.{ℕ, zero, suc, _-_}
 use mathlib.Core.Bool.{Bool, true, false, not, cond}
 use mathlib.Core.Path.{_≡_, refl, ap}
@@ -13,7 +13,7 @@ use Rattle.machine.specs.declared.Slot.{Slot}
 use Rattle.machine.specs.declared.State.{State}
 use Rattle.machine.proofs.Connectives.{clash}
 
--- what stands in a stage to move on; in pre, the instruction to be fetched next
+-- the instruction in a stage that may move on; in pre, the one to be fetched next
 unfoldable pub standing : Trace → State → Stage → Slot
 standing trace s pre = record { filled = ltb (s .fetched) (length trace); index = s .fetched; count = 0 }
 standing trace s IF = s .IF
@@ -24,14 +24,14 @@ standing trace s ST = s .ST
 standing trace s WB = s .WB
 standing trace s post = emptySlot
 
--- the place has yet to be reached up to which others may have to wait for an instruction of the kind
+-- an instruction of this kind, at this place, has not yet reached the place up to which others may wait for it
 unfoldable pub pending : Kind → Place → Bool
 pending plain p = false
 pending load p = shortOf p MEM 0
 pending store p = shortOf p ST 0
 pending branch p = shortOf p EX 0
 
--- in the stage, the first instruction waits for the second while that is older and pending
+-- in this stage the first instruction waits for the second, if the second is older and pending
 unfoldable pub waitsFor : Stage → Instruction → Instruction → Bool
 waitsFor pre i j = isBranch (j .kind) or not (hits (i .fetch))
 waitsFor IF i j = false
@@ -70,7 +70,7 @@ occupied trace s k = standing trace s k .filled
 unfoldable pub storeInMEM : Trace → State → Bool
 storeInMEM trace s = isStore (instruction trace (s .MEM .index) .kind)
 
--- the stage after another, where it is told whether MEM holds a store
+-- the stage after another, given whether MEM holds a store
 unfoldable pub nextIn : Bool → Stage → Stage
 nextIn inMEM pre = IF
 nextIn inMEM IF = ID
@@ -102,7 +102,7 @@ unfolding freeAt budget
 into-last going full true = refl
 into-last going full false = refl
 
--- the two as the code calls them
+-- the two at the full budget, as equations in which the budget does not appear, which is how the code's functions call each other
 module _ (going full : Stage → Bool) (inMEM : Bool) where
   pub moves-at : (k : Stage) → same k post ≡ false → movesAt going full inMEM k ≡ going k and freeAt going full inMEM (nextIn inMEM k)
   unfolding movesAt freeAt budget movesIn nextIn
@@ -123,7 +123,7 @@ module _ (going full : Stage → Bool) (inMEM : Bool) where
 unfoldable pub leaves : Trace → State → Stage → Bool
 leaves trace s k = movesAt (goes trace s) (occupied trace s) (storeInMEM trace s) k
 
--- the stage from which an instruction comes into a stage; nothing comes into pre
+-- the stage before another; nothing comes into pre
 unfoldable pub before : Stage → Stage
 before pre = post
 before IF = pre

@@ -1,4 +1,4 @@
--- Laws of the shut connectives of tests. Each takes the tests that it is about as explicit arguments, so that a call is `and-l _ _ e`.
+-- Laws of the connectives of tests, which do not unfold by themselves. Each law takes its tests as explicit arguments, as in `and-l _ _ e`.
 use Prim.Native.Nat.{ℕ, zero, suc, _<_}
 use native.Mathlib.Omega.{arith}
 use mathlib.Core.Bool.{Bool, true, false, not, true≢false, false≢true}
@@ -20,7 +20,7 @@ pub value : (b : Bool) → Value b
 value true = passed refl
 value false = failed refl
 
--- two tests that pass together are equal
+-- two tests that imply each other are equal
 pub both-ways : (a b : Bool) → (a ≡ true → b ≡ true) → (b ≡ true → a ≡ true) → a ≡ b
 both-ways true b f g = sym (f refl)
 both-ways false true f g = g refl
@@ -101,7 +101,7 @@ unfolding _or_
 or-false true = refl
 or-false false = refl
 
--- a test that must pass only under a condition
+-- a test that must pass where a condition holds, as a disjunction
 pub implied : (a b : Bool) → (a ≡ true → b ≡ true) → not a or b ≡ true
 unfolding _or_
 implied true b h = h refl
@@ -112,7 +112,7 @@ unfolding _or_
 implies true b e p = e
 implies false b e p = clash p refl
 
--- Every number below another.
+-- Tests of every number below a bound.
 step : (test : ℕ → Bool) (n : ℕ) → ((k : ℕ) → k < n → test k ≡ true) → test n ≡ true → (k : ℕ) → Tri k n → k < suc n → test k ≡ true
 step test n below here k (less l) h = below k l
 step test n below here k (equal e) h = rw e here
@@ -148,14 +148,14 @@ pub none-fails : (test : ℕ → Bool) (n k : ℕ) → k < n → test k ≡ true
 unfolding none
 none-fails test n k h e = every-fails (λ k. not (test k)) n k h (ap not e)
 
--- two tests that nothing passes are one
+-- no number passes either of two tests: as two scans, and as one
 pub none-either : (a b : ℕ → Bool) (n : ℕ) → none a n and none b n ≡ none (λ k. a k or b k) n
 none-either a b n =
     both-ways _ _
     (λ e. none-below _ n (λ k h. or-failed _ _ (none-at a n (and-l _ _ e) k h) (none-at b n (and-r _ _ e) k h)))
     (λ e. and-both _ _ (none-below a n (λ k h. or-failed-l _ _ (none-at _ n e k h))) (none-below b n (λ k h. or-failed-r _ _ (none-at _ n e k h))))
 
--- a test that counts only under a condition
+-- no number passes a test, unless a condition holds: as one scan
 pub none-unless : (c : Bool) (a : ℕ → Bool) (n : ℕ) → c or none a n ≡ none (λ k. not c and a k) n
 unfolding _and_ _or_
 none-unless true a n = sym (none-below _ n (λ k h. refl))
@@ -165,13 +165,13 @@ pub not-passes : (b : Bool) → b ≡ false → not b ≡ true
 not-passes true e = sym e
 not-passes false e = refl
 
--- a conjunction that failed although one side passed
+-- a conjunction that fails although one side passes: the other side fails
 pub and-fails : (a b : Bool) → a and b ≡ false → a ≡ true → b ≡ false
 unfolding _and_
 and-fails true b e p = e
 and-fails false b e p = absurd (false≢true p)
 
--- a side that is decided goes
+-- a side whose value is known can be left out
 pub and-left : (a b : Bool) → a ≡ true → a and b ≡ b
 unfolding _and_
 and-left true b e = refl
@@ -182,7 +182,7 @@ unfolding _or_
 or-left true b e = absurd (false≢true (sym e))
 or-left false b e = refl
 
--- a test of every number is decided by what it says below the bound
+-- two tests that agree below the bound pass at every number below it together
 pub every-same : (f g : ℕ → Bool) (n : ℕ) → ((k : ℕ) → k < n → f k ≡ g k) → every f n ≡ every g n
 unfolding every
 every-same f g zero h = refl

@@ -1,5 +1,5 @@
--- What the instructions of a trace do, from their records: the one place where the schedule meets the format and the rules. A rule that
--- holds instructions back is a line of `waits` here; `Readiness` shows that the rules say the same.
+-- The behaviour of a trace's instructions, as the schedule needs it, from their kinds, flags and latencies. This is the only place where the
+-- schedule depends on the rules: a rule that holds instructions back is a line of `waits` here, and `Readiness` shows that the rules say the same.
 use Prim.Native.Nat.{ℕ, zero, suc, _+_, _-_, _≤_}
 use mathlib.Core.Bool.{Bool, true, false, cond}
 use mathlib.Core.Path.{_≡_, refl}
@@ -11,7 +11,7 @@ use Rattle.machine.proofs.Numbers.{sum}
 use Rattle.machine.proofs.Schedule.{Behaviour}
 use Rattle.machine.proofs.Levels.{stageAlong}
 
--- the level that an older instruction of a kind must have reached: before a fetch that hits or not,
+-- The level that an older instruction, by its kind, must have reached before another is fetched, by whether that fetch hits;
 unfoldable pub waitsInPre : Kind → Bool → ℕ
 waitsInPre plain fetchHits = 0
 waitsInPre load true = 0
@@ -20,7 +20,7 @@ waitsInPre store true = 0
 waitsInPre store false = 5
 waitsInPre branch fetchHits = 3
 
--- before one that reads its target or not leaves ID,
+-- before another leaves ID, by whether that one reads the older one's target;
 unfoldable pub waitsInID : Kind → Bool → ℕ
 waitsInID plain readsTarget = 0
 waitsInID load true = 4
@@ -28,7 +28,7 @@ waitsInID load false = 0
 waitsInID store readsTarget = 0
 waitsInID branch readsTarget = 0
 
--- and before one that misses its data or not leaves EX
+-- and before another leaves EX, by whether that one's data access misses.
 unfoldable pub waitsInEX : Kind → Bool → ℕ
 waitsInEX plain dataMisses = 0
 waitsInEX load dataMisses = 0
@@ -36,7 +36,7 @@ waitsInEX store true = 5
 waitsInEX store false = 0
 waitsInEX branch dataMisses = 0
 
--- at a level, an instruction waits until the older one stands at the level given with count 0
+-- at a level, the first instruction waits until the second, an older one, has reached the given level with count 0
 unfoldable pub waits : ℕ → Instruction → Instruction → ℕ
 unfolding waitsInPre waitsInID waitsInEX
 waits zero i older = waitsInPre (older .kind) (hits (i .fetch))
@@ -82,13 +82,13 @@ waits-reach (suc (suc (suc (suc s)))) i older = omega arith
 abbrev pub countAt : Instruction → ℕ → ℕ
 countAt i s = entry i (stageAlong (isStore (i .kind)) s)
 
--- at level 5 it is a store's
+-- at level 5 only a store has one
 pub last-count : (i : Instruction) (lane : Bool) → entry i (stageAlong lane 5) ≡ cond lane (cond (misses (i .access)) (i .dataLatency - 1) 0) 0
 unfolding entry
 last-count i true = refl
 last-count i false = refl
 
--- the counts of a fetch and of a data access, and all counts together
+-- the counts of a fetch and of a data access, and the sum of all counts
 abbrev pub fetchCount : Bool → ℕ → ℕ
 fetchCount missed n = cond missed n 0
 

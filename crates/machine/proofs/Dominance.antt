@@ -1,5 +1,5 @@
--- Which older instructions decide: of those that share a stage, the one directly before; of those of one kind that are waited for, the
--- last. Each enters, and is done, no earlier than the ones before it, since they share the stages on the way.
+-- Which older instructions matter: of those that share a stage, the one directly before; of those of one kind that are waited for, the last. Each
+-- enters a stage, and is done with it, no earlier than those before it, since they pass through the same stages.
 use Prim.Native.Nat.{ℕ, zero, suc, _≤_, _<_}
 use mathlib.Core.Bool.{Bool, true, cond}
 use mathlib.Core.Path.{_≡_, sym, ap, subst, _∙_}
@@ -8,12 +8,12 @@ use Rattle.machine.proofs.Numbers.{Last, before, at, last}
 use Rattle.machine.proofs.Connectives.{Value, passed, failed, value, clash}
 use Rattle.machine.proofs.Schedule.{Behaviour, shares, shares-early, enters, done, own, share}
 
--- the instruction directly before k entered a level; 0 where there is none
+-- when the instruction directly before k enters a level; 0 if there is none
 unfoldable pub previous : Behaviour → ℕ → ℕ → ℕ
 previous b zero s = 0
 previous b (suc k) s = enters b k s
 
--- an older instruction enters the next level no later than a younger one the level
+-- an older instruction has entered the next level by the time that a younger one enters this one
 pub share-level : (b : Behaviour) (i j s : ℕ) → j < i → 0 < s → shares b i j s ≡ true → enters b j (suc s) ≤ enters b i s
 share-level b i j zero l p e = absurd (omega arith)
 share-level b i j (suc s) l p e = share b i j s l e
@@ -35,7 +35,7 @@ unfolding previous
 previous-le b zero s p m = omega arith
 previous-le b (suc k) s p m = share-early b (suc k) k s (omega arith) p m
 
--- when the last instruction below k that passed the test is done with a level; 0 where there is none
+-- when the last instruction before k that passes the test is done with a level; 0 if there is none
 unfoldable pub lastDone : Behaviour → (ℕ → Bool) → ℕ → ℕ → ℕ
 lastDone b test s zero = 0
 lastDone b test s (suc k) = cond (test k) (done b k s) (lastDone b test s k)

@@ -1,4 +1,4 @@
--- When an instruction is fetched: the closed form needs of the older ones only the one directly before, and the last branch, load and store.
+-- When an instruction is fetched: of the older ones, the closed form needs only the one directly before, and the last branch, load and store.
 use Prim.Native.Nat.{ℕ, _≤_, _<_, max}
 use mathlib.Core.Bool.{Bool, true, false, cond, false≢true}
 use mathlib.Core.Path.{_≡_, refl, sym, ap, subst, _∙_}

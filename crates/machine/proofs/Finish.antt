@@ -33,7 +33,7 @@ last-leaves-by b n m h =
     let p = greatest-le 0 (λ i. enters b i 6) n 0 m (omega arith) (λ k l. let q = h k l in omega arith) in
     omega arith
 
--- the search finds a time before which the test fails and at which it passes
+-- the search finds the time at which the test passes and before which it fails
 least-from : (test : ℕ → Bool) (tries t goal : ℕ) →
     ((u : ℕ) → u < goal → test u ≡ false) →
     test goal ≡ true →
@@ -103,7 +103,7 @@ finish-bounded trace = rw (finish-is trace) (leaves-within trace)
 pub all-left-is : (trace : Trace) (t : ℕ) → allLeft trace (after trace t) ≡ leb (finish trace) t
 all-left-is trace t = rw (finish-is trace) (all-left-at trace t)
 
--- the first k instructions from the time on at which the last of them leaves,
+-- the first k instructions have left from the time on at which the last of them leaves,
 pub first-left
     : (trace : Trace) (t k i : ℕ) → i < k → i < length trace → lastLeaves (behaviour trace) k ≤ t → after trace t i ≡ record { stage = post; count = 0 }
 unfolding behaviour entry
@@ -117,7 +117,7 @@ first-leave trace k l =
     (last-leaves-by (behaviour trace) k (lastLeaves (behaviour trace) (length trace)) λ i h.
     leaves-by (behaviour trace) (length trace) i (omega arith))
 
--- and so a run may stop at its finishing time
+-- and so nothing changes if a run stops at its finishing time
 pub stays-left : (trace : Trace) (t i : ℕ) → i < length trace → finish trace ≤ t → after trace t i ≡ record { stage = post; count = 0 }
 stays-left trace t i l m = let q = finish-is trace in first-left trace t (length trace) i l l (omega arith)
 

@@ -1,5 +1,5 @@
--- What comes into a slot and what goes in one cycle by slots: a slot that something comes into is empty or leaves, so the filled slots before
--- a stage change by what enters at IF less what comes into the stage.
+-- What comes into a slot and what leaves it in one cycle: a slot that something comes into is empty or is being left, so the number of filled slots
+-- before a stage changes by what enters IF less what enters the stage.
 use Prim.Native.Nat.{ℕ, suc, _+_, _-_}
 use native.Mathlib.Omega.{arith}
 use mathlib.Core.Bool.{Bool, true, false, not, cond}
@@ -16,7 +16,7 @@ use Rattle.machine.proofs.Stages.{same-stage, inside, inside-not-post}
 use Rattle.machine.proofs.BySlots.{standing, goes, occupied, storeInMEM, nextIn, movesIn, movesAt, freeAt, moves-at, free-at, leaves, before, takes, arrives, slotAfter, newSlot, stepBySlots}
 use Rattle.machine.proofs.Moving.{standing-slot}
 
--- a slot after the cycle, as what happened to it
+-- a slot after the cycle, by what happened to it
 pub data After (trace : Trace) (s : State) (k : Stage) : Slot → Type 0 where
   came :
       arrives trace s k ≡ true →
@@ -75,7 +75,7 @@ module _ (trace : Trace) (s : State) where
   unfolding goes
   leaves-filled k e = and-l _ _ (and-l _ _ (and-l _ _ (leaves-both k e)))
 
-  -- what something comes into is empty or leaves
+  -- a filled slot that something comes into is being left
   pub arrives-free : (k : Stage) → inside k ≡ true → arrives trace s k ≡ true → slot s k .filled ≡ true → leaves trace s k ≡ true
   unfolding arrives leaves occupied free
   arrives-free k w a f =
@@ -89,7 +89,7 @@ module _ (trace : Trace) (s : State) where
 abbrev pub bit : Bool → ℕ
 bit b = cond b 1 0
 
--- one slot, before and after
+-- one slot: what was in it and what comes equal what is in it afterwards and what left
 balance :
     (arriving gone full : Bool) (index count i c : ℕ) →
     (arriving ≡ true → full ≡ true → gone ≡ true) →
@@ -124,7 +124,7 @@ module _ (trace : Trace) (s : State) where
       by true = omega arith
       by false = omega arith
 
-  -- what comes into a slot is what leaves the stage before, if that leads here
+  -- the same for a slot into which goes whatever leaves the stage before
   passes :
       (k : Stage) →
       inside k ≡ true →
@@ -135,7 +135,7 @@ module _ (trace : Trace) (s : State) where
       slot-balance k w
       ∙ ap (λ (b : Bool). bit (slot s k .filled) + bit b) (ap (λ (b : Bool). leaves trace s (before k) and b) t ∙ and-true _)
 
-  -- the filled slots before a stage, before and after
+  -- the number of filled slots before a stage, before and after the cycle
   pub younger-after :
       (k : Stage) →
       inside k ≡ true →

@@ -1,4 +1,4 @@
--- The stages as levels of an instruction's way: which stage stands at a level, and when two instructions' stages are the same.
+-- The stages as levels that an instruction goes through: which stage a level is, and when two instructions at a level are in the same stage.
 use Prim.Native.Nat.{ℕ, zero, suc, _≤_, _<_}
 use mathlib.Core.Bool.{Bool, true, false, cond}
 use mathlib.Core.Path.{_≡_, refl, sym, subst, ap, _∙_}
@@ -9,7 +9,7 @@ use Rattle.machine.proofs.Numbers.{Last, before, at, last}
 use Rattle.machine.proofs.Stages.{same-stage, stage-same, stages-differ}
 use Rattle.machine.proofs.Schedule.{Behaviour, shares, Together, early, late, together, shares-early, shares-last}
 
--- the stage of an instruction at a level; ST is the last one of a store's lane
+-- the stage of a level, by the lane: ST is the last stage of a store's lane, WB of the other
 abbrev pub stageAlong : Bool → ℕ → Stage
 stageAlong lane zero = pre
 stageAlong lane (suc zero) = IF
@@ -29,7 +29,7 @@ rank-stage true (suc (suc (suc (suc (suc zero))))) l = refl
 rank-stage false (suc (suc (suc (suc (suc zero))))) l = refl
 rank-stage lane (suc (suc (suc (suc (suc (suc s)))))) l = omega arith
 
--- before level 5 the lanes do not matter
+-- before level 5 both lanes have the same stages
 stage-early : (a c : Bool) (s : ℕ) → s < 5 → stageAlong a s ≡ stageAlong c s
 stage-early a c zero l = refl
 stage-early a c (suc zero) l = refl
@@ -38,7 +38,7 @@ stage-early a c (suc (suc (suc zero))) l = refl
 stage-early a c (suc (suc (suc (suc zero)))) l = refl
 stage-early a c (suc (suc (suc (suc (suc s))))) l = absurd (omega arith)
 
--- at level 5 they do
+-- at level 5 they differ
 isST : Stage → Bool
 isST pre = false
 isST IF = false
@@ -79,7 +79,7 @@ same-shares b i j s l e = pick (last s 5 (omega arith))
         let g5 : stageAlong (b .lane j) 5 ≡ stageAlong (b .lane i) 5 = subst (λ (x : ℕ). stageAlong (b .lane j) x ≡ stageAlong (b .lane i) x) f g in
         subst (λ (x : ℕ). shares b i j x ≡ true) (sym f) (shares-last b i j (sym (lane-of (b .lane j)) ∙ ap isST g5 ∙ lane-of (b .lane i)))
 
--- the way to the next level
+-- the next stage is the stage of the next level
 pub next-stage : (kind : Kind) (s : ℕ) → s < 6 → next kind (stageAlong (isStore kind) s) ≡ stageAlong (isStore kind) (suc s)
 unfolding next
 next-stage kind zero l = refl

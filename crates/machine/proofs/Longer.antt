@@ -1,5 +1,5 @@
--- Where only latencies differ, the schedule is later by at most what was added: at each level by at most the difference of the entry counts
--- up to there. Sums stand on both sides, so that nothing is subtracted.
+-- Where only latencies differ, the schedule is later by at most what was added: at each level by at most the difference of the entry counts up to
+-- there. The inequalities have sums on both sides, so that nothing is subtracted.
 use Prim.Native.Nat.{ℕ, zero, suc, _+_, _-_, _≤_, _<_}
 use mathlib.Core.Bool.{Bool, true, false}
 use mathlib.Core.List.{_∷_}
@@ -18,7 +18,7 @@ use Rattle.machine.proofs.Finish.{lastLeaves, leaves-by, finish-is}
 use Rattle.machine.proofs.Monotone.{shares-alike}
 use Rattle.machine.proofs.Slower.{slower-at, slower-length, slower-behaviour}
 
--- the entry counts of an instruction, and all before level s of instruction i
+-- all entry counts of an instruction, and all those before level s of instruction i in the order of the trace
 counts : Behaviour → ℕ → ℕ
 counts b j = sum (b .count j) 6
 
@@ -30,7 +30,7 @@ record LongerBehaviour (a b : Behaviour) : Type 0 where
   lane : (i : ℕ) → b .lane i ≡ a .lane i
   until : (i s j : ℕ) → b .until i s j ≡ a .until i s j
 
--- between two points of the trace the longer one spends no less
+-- between two points of the trace, the longer trace spends no less
 module _ (a b : Behaviour) (longer : LongerBehaviour a b) where
   counts-rise : (i s u : ℕ) → u ≤ s → sum (a .count i) s + sum (b .count i) u ≤ sum (b .count i) s + sum (a .count i) u
   counts-rise i s u l = sum-grows (a .count i) (b .count i) (longer .count i) s u l
@@ -57,7 +57,7 @@ module _ (a b : Behaviour) (longer : LongerBehaviour a b) where
   Near : ℕ → Type 0
   Near i = (s : ℕ) → s ≤ 6 → enters b i s + spent a i s ≤ enters a i s + spent b i s
 
-  -- what an older one has at a level that i comes after
+  -- carries the bound from a level of an older instruction to a level that i enters no earlier
   near-older : (i s j u x y : ℕ) → j < i → u ≤ 6 → x + spent a j u ≤ y + spent b j u → y ≤ enters a i s → x + spent a i s ≤ enters a i s + spent b i s
   near-older i s j u x y older l h le = let p = spent-rises i s j u older l in omega arith
 
@@ -94,7 +94,7 @@ module _ (a b : Behaviour) (longer : LongerBehaviour a b) where
       let r = leaves-by a n i l in
       omega arith)
 
--- an instruction's counts grow by at most its latencies
+-- an instruction's counts grow by at most what its latencies grow by
 added-fetch : (x : Bool) (m n : ℕ) → m ≤ n → fetchCount x n ≤ fetchCount x m + (n - m)
 added-fetch true m n l = omega arith
 added-fetch false m n l = omega arith
@@ -132,7 +132,7 @@ added-at-most-counts (slower-more {a} {b} {first} {second} h hs) (same-more f g 
     let q = added-at-most-counts hs s in
     rw (first-counts a first, first-counts b second) (omega arith)
 
--- equal flags wait alike
+-- with equal flags, equal waits
 waits-alike : (s : ℕ) (i j older elder : Instruction) → SlowerInstruction i j → SlowerInstruction older elder → j .fetch ≡ i .fetch → j .access ≡ i .access →
     waits s j elder ≡ waits s i older
 unfolding waits reads missesData

@@ -1,4 +1,4 @@
--- The cycle by slots for code that counts stages as levels, pre 0 to post 7, and holds a bit for each of them in one number.
+-- The cycle by slots, for code that numbers the stages as levels, pre 0 to post 7, and keeps one bit for each in a number.
 use Prim.Native.Nat.{ℕ, zero, suc, _+_, _*_, _^_, _/_, _%_, _≤_, _<_}
 use native.Mathlib.Omega.{arith}
 use mathlib.Core.Bool.{Bool, true, false, not, cond}
@@ -13,7 +13,7 @@ use Rattle.machine.proofs.Stages.{level, stageAt, eight}
 use Rattle.machine.proofs.BySlots.{standing, pending, goes, occupied, storeInMEM, nextIn, movesAt, freeAt, moves-at, free-at, leaves}
 use Rattle.machine.proofs.Flow.{bit}
 
--- the level after another, where it is told whether MEM holds a store
+-- the level after another, given whether MEM holds a store
 abbrev pub nextLevel : Bool → ℕ → ℕ
 nextLevel inMEM at = cond (eqb at 4) (cond inMEM 5 6) (cond (eqb at 5) 7 (at + 1))
 
@@ -28,7 +28,7 @@ bits mask k = bitAt mask (level k)
 abbrev pub maskOf : (Stage → Bool) → ℕ
 maskOf f = bit (f pre) + 2 * bit (f IF) + 4 * bit (f ID) + 8 * bit (f EX) + 16 * bit (f MEM) + 32 * bit (f ST) + 64 * bit (f WB)
 
--- a fact of each level up to post
+-- a fact that holds for each of the eight levels
 upTo : (P : ℕ → Type 0) → P 0 → P 1 → P 2 → P 3 → P 4 → P 5 → P 6 → P 7 → (n : ℕ) → n ≤ 7 → P n
 upTo P a b c d e f g h zero l = a
 upTo P a b c d e f g h (suc zero) l = b
@@ -59,7 +59,7 @@ not-post n h =
     (omega arith)
     h
 
--- "Moves" and "will be free" over masks, one law for each way through the code.
+-- "Moves" and "will be free" over masks, one law for each path through the code.
 module _ (going full : ℕ) (inMEM : Bool) (n : ℕ) (h : n < 7) where
   at-level : (mask : ℕ) → bits mask (stageAt n) ≡ bitAt mask n
   at-level mask = ap (bitAt mask) (level-stage n (omega arith))
@@ -139,14 +139,14 @@ pub occupied-post : (trace : Trace) (s : State) → occupied trace s post ≡ fa
 unfolding occupied standing
 occupied-post trace s = refl
 
--- Pending, by levels: the level that the kind has yet to reach with count 0.
+-- Pending, by levels: the level that an instruction of the kind has to reach with count 0.
 abbrev pub goalLevel : Kind → ℕ
 goalLevel plain = 0
 goalLevel load = 4
 goalLevel store = 5
 goalLevel branch = 3
 
--- short of (EX, 0), (MEM, 0) or (ST, 0), where the level is a slot's
+-- short of (EX, 0), (MEM, 0) or (ST, 0), for a level that has a slot
 abbrev pub shortLevel : ℕ → ℕ → ℕ → Bool
 shortLevel goal n c = ltb n goal or (eqb n goal and ltb 0 c)
 

@@ -1,5 +1,5 @@
--- The schedule rises with entry counts and with what is waited for: each term does. So where one behaviour is slower than another, no
--- instruction is ever further on in it.
+-- The schedule is monotone in the entry counts and in what is waited for, since each of its terms is. So if one behaviour is slower than another,
+-- no instruction is ever further on in it.
 use Prim.Native.Nat.{ℕ, zero, suc, _-_, _≤_, _<_}
 use mathlib.Core.Bool.{false}
 use mathlib.Core.Path.{_≡_, sym, subst, _∙_}
@@ -27,7 +27,7 @@ done-mono b j h k l = pick (last h k (omega arith))
     pick (before m) = let p = enters-before b j h k m in omega arith
     pick (at e) = subst (λ (x : ℕ). done b j h ≤ done b j x) e (omega arith)
 
--- the same instructions share a stage
+-- the same pairs of instructions share a stage
 pub shares-alike : (a b : Behaviour) → ((i : ℕ) → b .lane i ≡ a .lane i) → (i j s : ℕ) → shares b i j s ≡ shares a i j s
 unfolding shares
 shares-alike a b h i j s = rw (h i, h j)

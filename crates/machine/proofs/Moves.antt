@@ -1,5 +1,6 @@
--- In a state that the schedule describes at t, an instruction at level s moves exactly when it enters level s + 1 by t + 1. Count 0 is the own
--- term of that time, ready the waits, and a free next stage the shares; each direction is an induction on the levels left to post.
+-- In a state that the schedule describes at t, an instruction at level s moves exactly when it enters level s + 1 by t + 1. That time is a maximum
+-- of three terms: its own count (count 0), what it waits for (ready), and who shares the next stage (will be free). Each direction is an induction
+-- on the levels left to post.
 use Prim.Native.Nat.{ℕ, zero, suc, _+_, _-_, _≤_, _<_}
 use mathlib.Core.Bool.{Bool, true, not}
 use mathlib.Core.Path.{_≡_, refl, sym, ap, subst, _∙_}
@@ -18,7 +19,7 @@ use Rattle.machine.proofs.Standing.{Stands, stands, levelAt, standing, 
 use Rattle.machine.proofs.Derivation.{behaviour}
 use Rattle.machine.proofs.Readiness.{ready-waits, ready-leaves-pre, waits-ready}
 
--- the budget of moves at d levels from post
+-- the budget of `moves` at d levels from post
 unfoldable pub double : ℕ → ℕ
 double zero = 0
 double (suc d) = suc (suc (double d))
@@ -45,7 +46,7 @@ module _ (trace : Trace) where
     unfolding behaviour
     next-of {i} {s} l m st = ap (next (instruction trace i .kind)) (stage-of l st) ∙ next-stage (instruction trace i .kind) s m
 
-    -- what moving says
+    -- what follows from moving
     left-behind : {i s : ℕ} → Stands b t i s → (j : ℕ) → j < i → s < 5 → (s ≡ 0 → enters b j 1 ≤ t) → enters b j (suc s) ≤ t
     left-behind {s = zero} st j l m first = first refl
     left-behind {i} {s = suc s} st j l m first =

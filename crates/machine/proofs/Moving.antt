@@ -1,5 +1,5 @@
--- Who moves, by slots: in an orderly state the rules' "moves" and "will be free" are those over the bits of the six slots and pre, by
--- induction on the budget that both share.
+-- Who moves, by slots: in an orderly state the rules' "moves" and "will be free" equal those computed from the bits of the six slots and pre, by
+-- induction on the budget.
 use Prim.Native.Nat.{ℕ, zero, suc, _≤_, _<_}
 use native.Mathlib.Omega.{arith}
 use mathlib.Core.Bool.{Bool, true, false, not}
@@ -116,7 +116,7 @@ module _ (trace : Trace) (s : State) (o : Orderly trace s) where
       (ap (willBeFreeWithin b trace (placeOf s)) (ap (next (instruction trace (standing trace s k .index) .kind)) at ∙ standing-next k)
       ∙ free (nextIn (storeInMEM trace s) k) (next-not-pre (storeInMEM trace s) k))
 
-  -- the test by which a stage is asked whether all in it move
+  -- the test that the rules make of each instruction to see whether a stage will be free
   asks : ℕ → Stage → ℕ → Bool
   asks b k j = not (same (placeOf s j .stage) k) or movesWithin b trace (placeOf s) j
 
@@ -189,14 +189,14 @@ module _ (trace : Trace) (s : State) (o : Orderly trace s) where
   both zero = (λ k f. refl, λ k w. refl)
   both (suc b) = (moves-step b (both b .1), λ k w. free-step b (both b .0) k w (value (same k post)))
 
-  -- the instruction that stands in a stage moves by the rules when it leaves by slots
+  -- the instruction in a stage moves by the rules exactly when it leaves by slots
   pub moves-by-slots : (k : Stage) → standing trace s k .filled ≡ true → moves trace (placeOf s) (standing trace s k .index) ≡ leaves trace s k
   unfolding moves leaves movesAt movesBit
   moves-by-slots k f =
       ap (λ (p : Place). movesWithin (budget (p .stage)) trace (placeOf s) (standing trace s k .index)) (standing-place k f)
       ∙ both (budget k) .0 k f
 
-  -- of those in pre only the next to be fetched may move: it is older than the others and in pre
+  -- of those in pre only the next to be fetched may move, since for all others an older one is in pre
   behind : (i : ℕ) → s .fetched < i → readyIn pre trace (placeOf s) i ≡ false
   unfolding readyIn noOlder
   behind i h =

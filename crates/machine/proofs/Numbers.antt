@@ -1,4 +1,4 @@
--- Numbers below a bound: their order as views to match on, induction over all below, the greatest and the sum of a function's values.
+-- Numbers below a bound: their order as types to match on, strong induction, and the greatest and the sum of a function's values.
 use Prim.Native.Nat.{ℕ, zero, suc, _+_, _≤_, _<_, max}
 use mathlib.Core.Path.{_≡_, refl, sym, ap, ap₂, subst}
 use native.Mathlib.Omega.{arith}
@@ -20,7 +20,7 @@ tri (suc a) (suc c) = up (tri a c)
     up (equal e) = equal (ap suc e)
     up (more l) = more (omega arith)
 
--- how a number below a successor stands to the one below it
+-- a number below suc n is below n or is n
 pub data Last (k n : ℕ) : Type 0 where
   before : k < n → Last k n
   at : k ≡ n → Last k n
@@ -35,7 +35,7 @@ last (suc k) (suc n) h = up (last k n (omega arith))
     up (before l) = before (omega arith)
     up (at e) = at (omega arith)
 
--- induction over all that are below
+-- strong induction
 all-below : (P : ℕ → Type 0) → ((i : ℕ) → ((j : ℕ) → j < i → P j) → P i) → (n i : ℕ) → i < n → P i
 all-below P step zero i l = absurd (omega arith)
 all-below P step (suc n) i l = step i (λ j m. all-below P step n j (omega arith))
@@ -62,7 +62,7 @@ le-greatest base f (suc n) k l = pick (le-greatest base f n k) (last k n l)
     pick ih (before m) = let h = ih m in omega arith
     pick ih (at e) = subst (λ (x : ℕ). f x ≤ max (greatest base f n) (f n)) (sym e) (omega arith)
 
--- with something added, as sums that differ in what was added are compared without subtraction
+-- the same with a number added on the left, so that no subtraction is needed where two times are compared
 pub greatest-le : (base : ℕ) (f : ℕ → ℕ) (n a m : ℕ) → base + a ≤ m → ((k : ℕ) → k < n → f k + a ≤ m) → greatest base f n + a ≤ m
 unfolding greatest
 greatest-le base f zero a m b h = b
@@ -81,7 +81,7 @@ unfoldable pub sum : (ℕ → ℕ) → ℕ → ℕ
 sum f zero = 0
 sum f (suc n) = sum f n + f n
 
--- a later sum grows by no less where every value is no less
+-- where every value is no less, the sum grows by no less from n to m
 pub sum-grows : (f g : ℕ → ℕ) → ((k : ℕ) → f k ≤ g k) → (m n : ℕ) → n ≤ m → sum f m + sum g n ≤ sum g m + sum f n
 unfolding sum
 sum-grows f g h zero zero l = omega arith
@@ -102,7 +102,7 @@ sum-mono f (suc m) n l = pick (sum-mono f m n) (last n (suc m) (omega arith))
     pick ih (before k) = let a = ih (omega arith) in omega arith
     pick ih (at e) = subst (λ (x : ℕ). sum f x ≤ sum f (suc m)) (sym e) (omega arith)
 
--- the first value may stand in front
+-- the first value taken out of the sum
 pub sum-first : (f : ℕ → ℕ) (n : ℕ) → sum f (suc n) ≡ f 0 + sum (λ k. f (suc k)) n
 unfolding sum
 sum-first f zero = omega arith

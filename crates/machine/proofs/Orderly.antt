@@ -15,11 +15,11 @@ use Rattle.machine.specs.declared.State.{State}
 use Rattle.machine.proofs.Connectives.{clash, and-l, and-r, and-both, implied, implies}
 use Rattle.machine.proofs.Stages.{eight}
 
--- a slot's count and emptiness
+-- the test of one slot: its count, or that it is empty
 abbrev countedIn : Slot → ℕ → Bool
 countedIn slot most = cond (slot .filled) (leb (slot .count) most) (eqb (slot .index) 0 and eqb (slot .count) 0)
 
--- the same by its fields
+-- that test is the definition's
 count-tested :
     (f : Bool) (i c most : ℕ) →
     (f ≡ true → c ≤ most) →

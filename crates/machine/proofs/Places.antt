@@ -1,5 +1,5 @@
--- The state that places give: its fetched count where pre is an upper part of the trace, its slots where a stage holds one instruction or none.
--- Only places below the trace's end count.
+-- The state that places give: its fetched count, where exactly the instructions from some index on are in pre; its slots, where each stage has at
+-- most one instruction. Places past the trace's end do not matter.
 use Prim.Native.Nat.{ℕ, zero, suc, _≤_, _<_}
 use native.Mathlib.Omega.{arith}
 use mathlib.Core.Bool.{true, false, cond}
@@ -72,7 +72,7 @@ module _ (places : Places) where
             (ap (λ (j : ℕ). record { filled = true; index = j; count = places j .count }) (sym e))
         by rec (more g) = absurd (omega arith)
 
--- places that agree below the end give one state
+-- places that agree within the trace give the same state
 module _ (a b : Places) where
   fetched-agrees : (n : ℕ) → ((i : ℕ) → i < n → a i ≡ b i) → fetchedBelow a n ≡ fetchedBelow b n
   unfolding fetchedBelow

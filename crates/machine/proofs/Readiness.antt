@@ -1,5 +1,5 @@
--- The rules' readiness is the schedule's waiting: where the older instructions stand as the schedule says, an instruction at a level is ready
--- exactly when each of them has come as far as it waits for. Every rule is first one test of each older instruction.
+-- The rules' readiness is the schedule's waiting: if the older instructions stand where the schedule says, an instruction at a level is ready
+-- exactly when each of them has come as far as it waits for. Every rule is first brought into the form of one test of each older instruction.
 use Prim.Native.Nat.{ℕ, zero, suc, _+_, _≤_, _<_}
 use mathlib.Core.Bool.{Bool, true, false, not}
 use mathlib.Core.Path.{_≡_, refl, sym, ap, subst, _∙_}
@@ -53,7 +53,7 @@ ready-held true (suc (suc (suc (suc (suc zero))))) trace places i = sym (none-fa
 ready-held false (suc (suc (suc (suc (suc zero))))) trace places i = sym (none-false i)
 ready-held lane (suc (suc (suc (suc (suc (suc s)))))) trace places i = sym (none-false i)
 
--- such a test is one of being short of the level to wait for
+-- such a test says that the older instruction is short of the level that is waited for
 module _ (late : ℕ → Bool) (never : late 0 ≡ false) where
   held-pre : (k : Kind) (fetchHits x : Bool) →
       x or (isBranch k and late 3) or (not fetchHits and ((isLoad k and late 4) or (isStore k and late 5))) ≡ x or late (waitsInPre k fetchHits)
@@ -108,7 +108,7 @@ module _ (trace : Trace) where
   abbrev kind : ℕ → Kind
   kind j = instruction trace j .kind
 
-  -- short of a level, in the rules and in the schedule
+  -- being short of a level is the same in the rules and in the schedule
   branch-short : (t j : ℕ) → shortOf (scheduled b t j) EX 0 ≡ isShort b t j 3
   branch-short t j = short-of b t j 3 (omega arith)
 

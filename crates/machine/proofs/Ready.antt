@@ -1,5 +1,5 @@
--- Ready, by slots: the rules' "no older .. such that" are one test of all older instructions, and in an orderly state those that fail it
--- stand in slots.
+-- Ready, by slots: the rules' conditions on older instructions are joined into one test of each older instruction, and in an orderly state those
+-- that can hold another back are in slots.
 use Prim.Native.Nat.{ℕ, _≤_, _<_}
 use native.Mathlib.Omega.{arith}
 use mathlib.Core.Bool.{Bool, true, false, not}
@@ -15,7 +15,7 @@ use Rattle.machine.proofs.Stages.{eight}
 use Rattle.machine.proofs.Spots.{Spot, waiting, held, left, spot, place-held, not-waiting}
 use Rattle.machine.proofs.BySlots.{pending, waitsFor, holdsBack, heldBack}
 
--- the older instruction at its place that an instruction waits for in a stage
+-- in this stage the first instruction waits for the second, an older one at this place
 abbrev pub waits : Stage → Instruction → Instruction → Place → Bool
 waits k i j p = pending (j .kind) p and waitsFor k i j
 
@@ -57,7 +57,7 @@ none-alike : (a b : ℕ → Bool) (n : ℕ) → ((k : ℕ) → a k ≡ b k) → 
 none-alike a b n h = ap (λ (t : ℕ → Bool). none t n) (fun-ext h)
 
 module _ (trace : Trace) (places : Places) (i : ℕ) where
-  -- nothing older is in pre: then ready is one test
+  -- where no older instruction is in pre, ready is one test
   pub ready-waits :
       noOlder trace places i (λ j p. same (p .stage) pre) ≡ true →
       (k : Stage) →
@@ -88,7 +88,7 @@ module _ (trace : Trace) (s : State) (o : Orderly trace s) (k : Stage) (i : ℕ)
   test : ℕ → Place → Bool
   test j p = waits k (instruction trace i) (instruction trace j) p
 
-  -- one slot's test, as one of all older instructions' tests
+  -- where no older instruction is waited for, no slot holds the instruction back
   slot-waits :
       noOlder trace (placeOf s) i (waits k (instruction trace i)) ≡ true →
       (at : Stage) →
@@ -149,7 +149,7 @@ module _ (trace : Trace) (s : State) (o : Orderly trace s) (k : Stage) (i : ℕ)
       back : not (heldBack trace s k i) ≡ true → none (λ j. test j (placeOf s j)) i ≡ true
       back e = none-below _ i (λ j l. spot-waits h (not-true _ e) j l (spot s j))
 
-  -- an instruction below the fetched count, or the next to be fetched, is ready when no slot holds it back
+  -- an instruction that is fetched, or the next to be fetched, is ready exactly when no slot holds it back
   pub ready-by-slots : i ≤ s .fetched → placeOf s i .stage ≡ k → ready trace (placeOf s) i ≡ not (heldBack trace s k i)
   unfolding ready noOlder
   ready-by-slots h e =

@@ -1,6 +1,6 @@
--- The states of a run are orderly and give every instruction the place that the rules give it after as many cycles: induction on the cycles, with
--- the schedule for the places, since it says what a cycle makes of any places that agree with it within the trace. So the states of two runs are
--- ordered where the places are, also where each run stops at its finishing time.
+-- The states of a run are orderly and give every instruction the place that the rules give it after as many cycles. By induction on the cycles; the
+-- schedule gives the places, since it says what a cycle makes of any places that agree with it within the trace. So the states of two runs are
+-- ordered as the places are, also where each run stops at its finishing time.
 use Prim.Native.Nat.{ℕ, zero, suc, _<_, min, zero-le}
 use mathlib.Core.Bool.{false}
 use mathlib.Core.Path.{_≡_, sym, subst, _∙_}
@@ -76,7 +76,7 @@ module _ (trace : Trace) where
   pub step-run : (t : ℕ) → stateOf trace (cycle trace (placeOf (stateAfter trace t))) ≡ stateAfter trace (suc t)
   step-run t = next-state t (stateAfter trace t) (run-faithful t)
 
-  -- a run may stop at its finishing time
+  -- nothing changes if a run stops at its finishing time
   pub run-stops-state : (t : ℕ) → stateAfter trace (min t (finish trace)) ≡ stateAfter trace t
   run-stops-state t = state-agrees (after trace (min t (finish trace))) (after trace t) trace (run-stops trace t)
 

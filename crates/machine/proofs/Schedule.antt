@@ -1,5 +1,5 @@
--- The schedule: after how many cycles each instruction enters each level of its way, in closed form, from what instructions do.
--- Levels: 0 pre, 1 IF, 2 ID, 3 EX, 4 MEM, 5 ST or WB, 6 post. Only the bounds at the end (own, share, wait, least) are used elsewhere.
+-- The schedule: after how many cycles each instruction enters each level, in closed form, from the behaviour of the instructions. Levels: 0 pre, 1
+-- IF, 2 ID, 3 EX, 4 MEM, 5 ST or WB, 6 post. Only the bounds at the end (own, share, wait, least) are used elsewhere.
 use Prim.Native.Nat.{ℕ, zero, suc, _+_, _≤_, _<_}
 use mathlib.Core.Bool.{Bool, true, false, cond, Bool·beq}
 use mathlib.Core.Path.{_≡_, refl, sym, subst, ap, _∙_}
@@ -10,8 +10,8 @@ use Rattle.machine.specs.Test.{_and_, _or_}
 use Rattle.machine.proofs.Connectives.{Value, passed, failed, value, and-l, and-r, and-both, or-l, or-r, or-else}
 use Rattle.machine.proofs.Numbers.{Last, before, at, last, greatest, base-greatest, le-greatest, greatest-le, greatest-same}
 
--- What the instructions of a trace do: the entry count of an instruction at a level; whether its last stage is ST; and the level at which an
--- older instruction j must stand with count 0 before instruction i, at a level, is ready. Level 0 stands for not waiting: nothing is short of it.
+-- The behaviour of a trace's instructions: the entry count of an instruction at a level; whether its last stage is ST; and the level that an older
+-- instruction j must have reached with count 0 before instruction i, at a level, is ready. Level 0 means no waiting, since nothing is short of it.
 pub record Behaviour : Type 0 where
   pub count : ℕ → ℕ → ℕ
   pub lane : ℕ → Bool
@@ -44,7 +44,7 @@ table b (suc n) j s = cond (eqb j n) (entering b (table b n) n s) (table b n j s
 pub enters : Behaviour → ℕ → ℕ → ℕ
 enters b i s = entering b (table b i) i s
 
--- one cycle after j stands at level s with count 0: what waits for that can have moved
+-- one cycle after j first stands at level s with count 0, which is when what waits for that can have moved
 unfoldable pub done : Behaviour → ℕ → ℕ → ℕ
 done b j s = enters b j s + b .count j s + 1
 
@@ -68,7 +68,7 @@ enters-suc b i s =
     (greatest-same (done b i s) (shareTerm b (table b i) i s) (shareTerm b (enters b) i s) i
     (λ j l. ap (λ (t : ℕ). cond (shares b i j (suc s)) t 0) (table-is b i j (suc (suc s)) l)))
 
--- which instructions have the same stage at a level
+-- laws of `shares`
 beq-refl : (a : Bool) → Bool·beq a a ≡ true
 beq-refl true = refl
 beq-refl false = refl
@@ -133,7 +133,7 @@ pub wait : (b : Behaviour) (i j s : ℕ) → j < i → done b j (b .until i s j)
 unfolding waitTerm done
 wait b i j s l = rw (enters-suc b i s) (le-greatest (greatest (done b i s) (shareTerm b (enters b) i s) i) (waitTerm b (enters b) i s) i j l)
 
--- with something added, as schedules that differ by what was added are compared without subtraction
+-- the same with a number added on the left, so that no subtraction is needed where two schedules are compared
 pub least-plus : (b : Behaviour) (i s a m : ℕ) →
     done b i s + a ≤ m →
     ((j : ℕ) → j < i → shares b i j (suc s) ≡ true → enters b j (suc (suc s)) + a ≤ m) →

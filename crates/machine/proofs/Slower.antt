@@ -1,5 +1,5 @@
--- A slower trace of demand 3 is a slower behaviour: entry counts and waits rise with misses and latencies. So the order of finishing times and of
--- places follows from the schedule's.
+-- The slower trace of a pair that demand 3 compares has the slower behaviour: entry counts and waits rise with misses and latencies. So the order
+-- of finishing times and of places follows from the schedule's.
 use Prim.Native.Nat.{ℕ, zero, suc, _-_, _≤_}
 use mathlib.Core.Bool.{Bool, true, false, cond}
 use mathlib.Core.Path.{_≡_, refl, ap}
@@ -15,7 +15,7 @@ use Rattle.machine.proofs.Bridge.{bridge}
 use Rattle.machine.proofs.Finish.{leaves-by, last-leaves-by, finish-is}
 use Rattle.machine.proofs.Monotone.{SlowerBehaviour, enters-later, not-further}
 
--- what a miss costs, where the kind has the access
+-- an entry count is no smaller in the slower trace
 miss-costs : {f g : Flag} (x : Bool) (m n : ℕ) → FlagTo f g → m ≤ n → cond (x and misses f) m 0 ≤ cond (x and misses g) n 0
 unfolding _and_
 miss-costs true m n hit-hit l = omega arith
@@ -41,7 +41,7 @@ count-rises i j h (suc (suc (suc (suc (suc zero))))) =
     (store-costs (isStore (i .kind)) (i .dataLatency - 1) (j .dataLatency - 1) (h .access) (let l = h .dataLatency in omega arith))
 count-rises i j h (suc (suc (suc (suc (suc (suc s)))))) = omega arith
 
--- a miss waits for what a hit waits for, and more
+-- a miss waits for all that a hit waits for
 fetch-waits : {f g : Flag} (k : Kind) → FlagTo f g → waitsInPre k (hits f) ≤ waitsInPre k (hits g)
 unfolding waitsInPre
 fetch-waits plain h = omega arith

@@ -1,5 +1,5 @@
--- Where an instruction stands in a state: waiting in pre, held by one slot, or left. In an orderly state no two slots hold one instruction,
--- since of two filled slots the one further on holds the older; so the slots and the places tell each other.
+-- Where an instruction is in a state: in pre, held by one slot, or in post. In an orderly state no two slots hold the same instruction, since of
+-- two filled slots the one further on holds the older; so slots and places determine each other.
 use Prim.Native.Nat.{ℕ, zero, suc, _+_, _≤_, _<_}
 use native.Mathlib.Omega.{arith}
 use native.Mathlib.Decide.{le-ind}
@@ -37,7 +37,7 @@ module _ (s : State) (i : ℕ) where
   unfolding holds
   held-both k f e = and-both _ _ f (eq-eqb (slot s k .index) i e)
 
-  -- one slot looked at
+  -- one slot of several: if it holds i, it gives i's place; if not, the others do
   look :
       (k : Stage) (other : Place) →
       i < s .fetched →
@@ -71,7 +71,7 @@ module _ (s : State) (i : ℕ) where
           look WB _ l (at WB) (λ f.
           left l (eight (λ k. holds (slot s k) i ≡ false) (none-held pre refl) a b c d e f (none-held post refl)))))))))
 
--- the filled slots whose stages lie below a rank, as a sum that grows with the rank
+-- the number of filled slots whose stages have a smaller rank, as a sum that grows with the rank
 youngerAt : State → ℕ → ℕ
 youngerAt s zero = 0
 youngerAt s (suc r) = youngerAt s r + cond (slot s (stageAt r) .filled) 1 0
@@ -80,7 +80,7 @@ younger-grows : (s : State) (a b : ℕ) → a ≤ b → youngerAt s a ≤ younge
 unfolding youngerAt
 younger-grows s a b h = le-ind (λ b. youngerAt s a ≤ youngerAt s b) (omega arith) (λ b l r. omega arith) b h
 
--- the stage of a rank, for a store or another kind
+-- the stage of a rank, for a store or any other kind
 stageOf : ℕ → Bool → Stage
 stageOf r store = cond (eqb r 5) (cond store ST WB) (stageAt r)
 
@@ -115,7 +115,7 @@ module _ (trace : Trace) (s : State) (o : Orderly trace s) where
   pub slot-fetched : (k : Stage) → slot s k .filled ≡ true → slot s k .index < s .fetched
   slot-fetched k f = let h = under k f in omega arith
 
-  -- what stands at a rank below 5 counts for the ranks above it
+  -- a filled slot at a rank below 5 adds one for the ranks above it
   counts : (k : Stage) → slot s k .filled ≡ true → rank k < 5 → youngerAt s (suc (rank k)) ≡ youngerAt s (rank k) + 1
   unfolding youngerAt
   counts pre f h = clash f refl
@@ -137,7 +137,7 @@ module _ (trace : Trace) (s : State) (o : Orderly trace s) where
       let grows = younger-grows s (suc (rank a)) (rank b) h in
       omega arith
 
-  -- ST and WB, alike in rank, differ in kind
+  -- ST and WB have the same rank, and are told apart by the kind of what they hold
   told : (k : Stage) → slot s k .filled ≡ true → stageOf (rank k) (isStore (instruction trace (slot s k .index) .kind)) ≡ k
   unfolding stageOf
   told pre f = refl
@@ -158,7 +158,7 @@ module _ (trace : Trace) (s : State) (o : Orderly trace s) where
           sym (told a f) ∙ ap₂ (λ (r i : ℕ). stageOf r (isStore (instruction trace i .kind))) r e ∙ told b g
       by (more l) = let h = further-older b a g f l in absurd (omega arith)
 
-  -- a filled slot places its instruction
+  -- a filled slot gives its instruction its place
   pub place-held : (k : Stage) (i : ℕ) → slot s k .filled ≡ true → slot s k .index ≡ i → placeOf s i ≡ record { stage = k; count = slot s k .count }
   place-held k i f e = by (spot s i)
     where

@@ -1,5 +1,5 @@
--- When an instruction enters the stages after IF: of the older ones the closed form needs only the one directly before, a load directly before, and
--- the last store.
+-- When an instruction enters the stages after IF: of the older ones, the closed form needs only the one directly before (and its target, if it is a
+-- load) and the last store.
 use Prim.Native.Nat.{ℕ, zero, suc, _+_, _≤_, _<_, max}
 use mathlib.Core.Bool.{Bool, true, false, cond, false≢true}
 use mathlib.Core.Path.{_≡_, refl, sym, ap, subst, _∙_}
@@ -79,7 +79,7 @@ module _ (trace : Trace) where
   targetBefore zero = 0
   targetBefore (suc k) = cond (isLoad (instruction trace k .kind)) (instruction trace k .target) 0
 
-  -- only the load directly before matters: an older one has left MEM when that enters it
+  -- only a load directly before matters: one further back has left MEM by the time that the one directly before enters it
   older-load : (k j : ℕ) → j < k → isLoad (instruction trace j .kind) ≡ true → reads (instruction trace k) (instruction trace j .target) ≡ true →
       done b j 4 ≤ max (previous b k 4) (cond (reads (instruction trace k) (targetBefore k)) (loads trace k) 0)
   unfolding previous targetBefore
@@ -154,7 +154,7 @@ module _ (trace : Trace) where
       (max-le (own b k 3) (previous-le b k 4 (omega arith) (omega arith)))
       (miss-waits k (value (missesData (instruction trace k)))))
 
-  -- post: nothing is shared there and nothing waited for
+  -- post: it is shared with nobody, and nothing is waited for
   pub at-post : (k : ℕ) → enters b k 6 ≡ done b k 5
   unfolding behaviour waits done
   at-post k =
@@ -169,7 +169,7 @@ module _ (trace : Trace) where
       none-shares (early l) = absurd (omega arith)
       none-shares (late l e) = absurd (omega arith)
 
-  -- the last stage: WB is free in time, ST when the last store is done
+  -- the last stage: WB is always free in time, ST when the last store is done
   store-free : (k : ℕ) → Value (isStore (instruction trace k .kind)) → cond (isStore (instruction trace k .kind)) (stores trace k) 0 ≤ enters b k 5
   unfolding stores behaviour
   store-free k (failed e) = rw e (omega arith)

@@ -1,4 +1,4 @@
--- The stages as numbers, which tell one stage from another: the level that the code counts with, pre 0 to post 7.
+-- The stages as the numbers that the code uses, pre 0 to post 7: different stages have different numbers.
 use Prim.Native.Nat.{ℕ, zero, suc, _≤_}
 use native.Mathlib.Omega.{arith}
 use mathlib.Core.Bool.{Bool, true, false}
@@ -20,7 +20,7 @@ stageAt (suc (suc (suc (suc (suc zero))))) = ST
 stageAt (suc (suc (suc (suc (suc (suc zero)))))) = WB
 stageAt (suc (suc (suc (suc (suc (suc (suc n))))))) = post
 
--- a fact of each of the eight stages
+-- a fact that holds for each of the eight stages
 pub eight : (P : Stage → Type 0) → P pre → P IF → P ID → P EX → P MEM → P ST → P WB → P post → (a : Stage) → P a
 eight P a b c d e f g h pre = a
 eight P a b c d e f g h IF = b

@@ -1,5 +1,5 @@
--- Where the schedule has an instruction stand after t cycles: at the greatest level that it has entered, with its entry count less the
--- cycles since; and what the rules' tests say of such a place.
+-- Where the schedule puts an instruction after t cycles: at the greatest level that it has entered, with its entry count less the cycles since; and
+-- what the rules' tests say of such a place.
 use Prim.Native.Nat.{ℕ, zero, suc, _+_, _-_, _≤_, _<_}
 use mathlib.Core.Bool.{Bool, true, false, cond}
 use mathlib.Core.Path.{_≡_, refl, sym, subst, ap, _∙_}
@@ -30,7 +30,7 @@ pub record Stands (b : Behaviour) (t i s : ℕ) : Type 0 where
   pub entered : enters b i s ≤ t
   pub stays : s < 6 → t < enters b i (suc s)
 
--- the greatest level up to s that is entered at t
+-- the greatest level up to s that has been entered by t
 levelUpTo : (ℕ → ℕ) → ℕ → ℕ → ℕ
 levelUpTo times t zero = 0
 levelUpTo times t (suc s) = cond (leb (times (suc s)) t) (suc s) (levelUpTo times t s)
@@ -69,7 +69,7 @@ stands b t i =
     let u = up-to (enters b i) t 6 (rw (starts b i) (omega arith)) in
     record { level = u .level; entered = u .entered; stays = u .stays }
 
--- what is entered and what is not
+-- which levels have been entered, and which have not
 pub not-yet : {b : Behaviour} {t i s : ℕ} → Stands b t i s → (u : ℕ) → s < u → u ≤ 6 → t < enters b i u
 unfolding done
 not-yet {b} {t} {i} {s} st u l m = pick (last (suc s) u (omega arith))
@@ -86,7 +86,7 @@ already {b} {t} {i} {s} st u l = pick (last u s (omega arith))
     pick (before k) = let p = st .entered in let q = enters-before b i u s k in omega arith
     pick (at e) = subst (λ (x : ℕ). enters b i x ≤ t) (sym e) (st .entered)
 
--- so there is one level only
+-- so an instruction is at one level only
 pub stands-once : {b : Behaviour} {t i s u : ℕ} → Stands b t i s → Stands b t i u → s ≡ u
 stands-once {b} {t} {i} {s} {u} p q = pick (tri s u)
   where
@@ -99,7 +99,7 @@ stands-once {b} {t} {i} {s} {u} p q = pick (tri s u)
 unfoldable pub isShort : Behaviour → ℕ → ℕ → ℕ → Bool
 isShort b t j h = ltb t (enters b j h + b .count j h)
 
--- a count above 0 is left where the entry count exceeds the cycles since
+-- the count is above 0 exactly where the entry count exceeds the cycles since entry
 left : (t e c : ℕ) → e ≤ t → ltb 0 (c - (t - e)) ≡ ltb t (e + c)
 left t e c l = pick (value (ltb t (e + c)))
   where
@@ -151,7 +151,7 @@ in-post-level {b} {t} {j} {l} st = pick (last l 6 (let h = st .level in omega ar
     pick (at e) =
         stage-same (stageAlong (b .lane j) l) post (ap (stageAlong (b .lane j)) e) ∙ sym (le-leb (enters b j 6) t (already st 6 (omega arith)))
 
--- where the schedule has instruction j stand
+-- where the schedule puts instruction j
 unfoldable pub scheduled : Behaviour → ℕ → Places
 scheduled b t j = standing b t j (levelAt (enters b j) t)
 

@@ -22,7 +22,7 @@ use Rattle.machine.proofs.Moving.{standing-slot, standing-place, standi
 use Rattle.machine.proofs.Flow.{After, came, stayed, vacant, after-cycle, takes-next, leaves-filled, arrives-free, bit, fetched-after}
 use Rattle.machine.proofs.StepOrderly.{step-keeps-orderly}
 
--- where the next stage leads
+-- what comes after a stage: a stage with a slot, which it leads to, or post
 data Onward (inMEM : Bool) (k : Stage) : Type 0 where
   into : inside (nextIn inMEM k) ≡ true → before (nextIn inMEM k) ≡ k → takes inMEM (nextIn inMEM k) ≡ true → Onward inMEM k
   out : nextIn inMEM k ≡ post → Onward inMEM k
@@ -39,7 +39,7 @@ onward inMEM ST = out refl
 onward inMEM WB = out refl
 onward inMEM post = out refl
 
--- where an instruction enters a stage, and where one that stays is a cycle on
+-- the place of an instruction that has just entered a stage, and the place, one cycle on, of one that stays
 abbrev entering : Trace → ℕ → Stage → Place
 entering trace i to = record { stage = to; count = entry (instruction trace i) to }
 
@@ -97,7 +97,7 @@ module _ (trace : Trace) (s : State) (o : Orderly trace s) where
       (stays-on k (ap (λ (r : Slot). r .filled) q ∙ g) l)
   slot-place k w (vacant a e) f = clash f refl
 
-  -- what stays or comes is in the slot afterwards
+  -- what stays in a slot or comes into it is in it afterwards
   stays-in :
       (k : Stage) →
       inside k ≡ true →
@@ -153,7 +153,7 @@ module _ (trace : Trace) (s : State) (o : Orderly trace s) where
       (subst (λ (i : ℕ). holds (newSlot trace s k) i ≡ false) (ap (λ (r : Slot). r .index) q)
       (subst (λ (r : Slot). holds r (standing trace s k .index) ≡ false) (slot-after k (stay l)) (none k)))
 
-  -- Each instruction's place afterwards, by where it is then.
+  -- Each instruction's place afterwards: in pre, in a slot, or in post.
   in-pre :
       (i : ℕ) →
       i < length trace →

@@ -1,5 +1,5 @@
--- One cycle by slots keeps a state orderly: each slot afterwards holds what came or what stayed, and both are in turn since the filled slots
--- before it and the fetched count have changed alike.
+-- One cycle by slots keeps a state orderly: each slot afterwards holds what came or what stayed, and both are in turn, since the number of filled
+-- slots before it and the fetched count have changed by the same amount.
 use Prim.Native.Nat.{ℕ, _+_, _≤_, _<_}
 use native.Mathlib.Omega.{arith}
 use mathlib.Core.Bool.{Bool, true, false, not}
@@ -18,7 +18,7 @@ use Rattle.machine.proofs.BySlots.{standing, waitsFor, holdsBack, heldB
 use Rattle.machine.proofs.Flow.{After, came, stayed, vacant, after-cycle, leaves-filled, bit, fetched-after, younger-after}
 
 module _ (trace : Trace) (s : State) (o : Orderly trace s) where
-  -- what stands before a stage is the youngest that no slot before that stage holds, and is counted there
+  -- the instruction in the stage before k is the youngest that no slot before that stage holds
   source : (k : Stage) → inside k ≡ true → standing trace s (before k) .filled ≡ true → standing trace s (before k) .index + younger s k ≡ s .fetched
   unfolding standing before younger
   source pre w f = clash w refl
@@ -70,7 +70,7 @@ module _ (trace : Trace) (s : State) (o : Orderly trace s) where
   turn-after k w off t (stayed a g l) f = stayed-turn k w (off a g l) (slot s k .index) (t .index g)
   turn-after k w off t (vacant a e) f = clash f refl
 
-  -- nothing leaves before a slot of IF to MEM into which nothing comes
+  -- if nothing comes into a slot, the stage that leads to it is not left
   shut : (k : Stage) → takes (storeInMEM trace s) k ≡ true → arrives trace s k ≡ false → leaves trace s (before k) ≡ false
   unfolding arrives
   shut k t a = sym (and-true _) ∙ ap (λ (b : Bool). leaves trace s (before k) and b) (sym t) ∙ a

@@ -1,6 +1,6 @@
--- The window: what one pass over a trace has to remember of the instructions so far, and the times of the next one from it. For the code
--- of the finishing time and of a run; the finite memory suffices because the instruction directly before, and the last branch, load and
--- store, dominate all older ones.
+-- The window: what one pass over a trace has to remember of the instructions so far, and the times of the next instruction from it. Finish and Run
+-- are coded this way. A window of constant size suffices because the instruction directly before, and the last branch, load and store, dominate all
+-- older ones.
 use Prim.Native.Nat.{ℕ, zero, suc, _+_, _-_, max}
 use mathlib.Core.Bool.{cond}
 use lib.Dec.{ltb}
@@ -35,7 +35,7 @@ pub record Times : Type 0 where
 unfoldable pub noWindow : Window
 noWindow = record { ID = 0; EX = 0; MEM = 0; last = 0; branchDone = 0; loadDone = 0; storeDone = 0; loadTarget = 0; finish = 0 }
 
--- One function for each stage: the own way there, the stage becoming free, and what is waited for before it.
+-- One function for each stage: the latest of the instruction's own arrival, the stage becoming free, and what it waits for.
 unfoldable pub enterIF : Window → Instruction → ℕ
 enterIF w i = max (max 1 (w .ID)) (max (w .branchDone) (cond (hits (i .fetch)) 0 (max (w .loadDone) (w .storeDone))))
 

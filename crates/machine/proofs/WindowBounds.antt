@@ -1,4 +1,4 @@
--- All times in the window, and all that are computed from it, lie within the bound of the instructions so far: sums of 32 bits do not wrap.
+-- All times in the window, and all that are computed from it, lie within the bound of the instructions so far, so that 32-bit sums do not wrap.
 use Prim.Native.Nat.{ℕ, zero, suc, _≤_, _<_}
 use mathlib.Core.Bool.{Bool}
 use mathlib.Core.Path.{sym, subst}

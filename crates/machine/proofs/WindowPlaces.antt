@@ -1,5 +1,5 @@
--- Where an instruction stands after t cycles, from its six times: it has come as far as the times that t has reached, and its count is the entry
--- count less the cycles since, cut at 0. The bridge in the form that the code of a run has.
+-- Where an instruction stands after t cycles, from its six times: at the last stage that it has entered by t, with its entry count less the cycles
+-- since, but at least 0. This is the bridge in the form that the code of Run has.
 use Prim.Native.Nat.{ℕ, zero, suc, _-_, _≤_, _<_}
 use mathlib.Core.Bool.{true, false}
 use mathlib.Core.Path.{_≡_, refl, sym, ap, _∙_}

@@ -1,5 +1,5 @@
--- The window before an instruction holds what the closed form needs, so its times are the schedule's, and the last window has the finishing time.
--- The code of the finishing time and of a run is proved against this.
+-- The window before an instruction holds what the closed form needs, so the times computed from it are the schedule's, and the last window holds
+-- the finishing time. The code of Finish and Run is proved against this.
 use Prim.Native.Nat.{ℕ, zero, suc}
 use mathlib.Core.Path.{_≡_, refl, sym, ap, _∙_}
 use lib.ListN.{length}
@@ -94,7 +94,7 @@ module _ (trace : Trace) where
   unfolding timesAt
   window-times k = rw (window-seen k) (times-seen k)
 
-  -- the window has when all so far have left, and so the one after all the finishing time
+  -- the window holds the time by which all so far have left, so the last window holds the finishing time
   pub window-leaves : (k : ℕ) → windowBefore trace k .finish ≡ lastLeaves b k
   unfolding seen
   window-leaves k = ap (λ (w : Window). w .finish) (window-seen k)

@@ -35,7 +35,7 @@ plainOne : Instruction
 unfolding simple
 plainOne = simple plain hit 0
 
--- the same with a fetch flag and its latency, or with registers
+-- the same with another fetch flag and latency, another execution latency, or other registers
 fetched : Flag → ℕ → Instruction → Instruction
 fetched fetch latency i =
     record {
@@ -103,8 +103,8 @@ cases =
     ∷ record { trace = simple load unknown 10 ∷ fetched unknown 1 plainOne ∷ []; best = 7; worst = 21 }
     ∷ []
 
--- What A to L do not show: a dependence by the second source, and by register 0 none; a missing fetch behind an older store, and a hitting one;
--- a data hit behind a pending store, and a miss; a branch that takes cycles to execute.
+-- What A to L do not show: a dependence through the second source, and none through register 0; behind an older store a fetch that misses, a fetch
+-- that hits, a data access that hits and one that misses; a branch with an execution latency.
 unfoldable pub further : List Case
 unfolding simple plainOne fetched executed registers settledCase
 further =

@@ -11,7 +11,7 @@ pub data Kind : Type 0 where
 pub data Flag : Type 0 where
   hit miss unknown : Flag
 
--- The fetch and the data access each have a flag and a latency; a latency stands there also where the access hits.
+-- The fetch and the data access each have a flag and a latency; the latency is given where the access hits, too.
 pub record Instruction : Type 0 where
   pub kind : Kind
   pub fetch : Flag
@@ -26,7 +26,7 @@ pub record Instruction : Type 0 where
 abbrev pub Trace : Type 0
 Trace = List Instruction
 
--- what stands past a trace's end, where no rule looks
+-- what a trace reads as past its end, where no rule reads it
 abbrev pub blank : Instruction
 blank =
     record {

@@ -27,7 +27,7 @@ next kind ST = post
 next kind WB = post
 next kind post = post
 
--- how many stages lie before a stage on an instruction's way
+-- how many stages an instruction passes through before this one
 abbrev pub rank : Stage → ℕ
 rank pre = 0
 rank IF = 1
@@ -38,7 +38,7 @@ rank ST = 5
 rank WB = 5
 rank post = 6
 
--- the stages numbered, to tell one from another
+-- a number for each stage, by which two stages are compared
 abbrev pub level : Stage → ℕ
 level pre = 0
 level IF = 1
@@ -69,7 +69,7 @@ further a b = ltb (rank (b .stage)) (rank (a .stage)) or (same (a .stage) (b .st
 unfoldable pub shortOf : Place → Stage → ℕ → Bool
 shortOf a s c = further (record { stage = s; count = c }) a
 
--- Which kind, and which flag
+-- Tests of a kind, and of a flag.
 abbrev pub isLoad : Kind → Bool
 isLoad plain = false
 isLoad load = true
@@ -110,7 +110,7 @@ entry i ST = cond (misses (i .access)) (i .dataLatency - 1) 0
 entry i WB = 0
 entry i post = 0
 
--- "older means earlier in the trace": no older instruction passes the test, which is handed the instruction and its place
+-- "older" means earlier in the trace: no older instruction passes the test, which is given the instruction and its place
 unfoldable pub noOlder : Trace → Places → ℕ → (Instruction → Place → Bool) → Bool
 noOlder trace places i test = none (λ j. test (instruction trace j) (places j)) i
 

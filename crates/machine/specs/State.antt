@@ -34,7 +34,7 @@ slot s post = emptySlot
 unfoldable pub holds : Slot → ℕ → Bool
 holds slot i = slot .filled and eqb (slot .index) i
 
--- i's place where the stage's slot holds it, else the other place
+-- i's place if the stage's slot holds it, else the other place
 placeIn : State → ℕ → Stage → Place → Place
 placeIn s i stage other = cond (holds (slot s stage) i) (record { stage = stage; count = slot s stage .count }) other
 
@@ -53,13 +53,14 @@ unfoldable pub fetchedBelow : Places → ℕ → ℕ
 fetchedBelow places zero = 0
 fetchedBelow places (suc n) = cond (same (places n .stage) pre) (fetchedBelow places n) (suc (fetchedBelow places n))
 
--- the slot of a stage: the instruction below n that is in it
+-- the slot of a stage: the instruction below n that is in it, the youngest if there were several
 unfoldable pub occupantBelow : Places → Stage → ℕ → Slot
 occupantBelow places stage zero = emptySlot
 occupantBelow places stage (suc n) =
     cond (same (places n .stage) stage) (record { filled = true; index = n; count = places n .count }) (occupantBelow places stage n)
 
--- the state that gives every instruction its place
+-- The state that places give. It gives every instruction its place again if no stage has two and the fetched ones come first, which a cycle keeps
+-- (`CycleGivesPlaces`).
 unfoldable pub stateOf : Trace → Places → State
 stateOf trace places =
     record {
@@ -72,7 +73,7 @@ stateOf trace places =
       WB = occupantBelow places WB (length trace);
     }
 
--- how many slots among IF to MEM are filled before a stage; before ST and WB these are document 01's m
+-- how many of the slots IF to MEM that come before a stage are filled; for ST and WB this is document 01's m
 filled : Slot → ℕ
 filled slot = cond (slot .filled) 1 0
 
@@ -113,7 +114,7 @@ pub record Orderly (trace : Trace) (s : State) : Type 0 where
   pub aStore : s .ST .filled ≡ true → isStore (instruction trace (s .ST .index) .kind) ≡ true
   pub counted : (stage : Stage) → Counted trace s stage
 
--- The same as tests.
+-- The same, as tests that compute.
 inTurn : State → Stage → Bool
 inTurn s stage = not (slot s stage .filled) or eqb (slot s stage .index + younger s stage + 1) (s .fetched)
 

@@ -1,4 +1,4 @@
--- The connectives of tests that compute, and a test of every number below another. They stay shut in proofs that do not open them.
+-- Connectives of tests that compute, and a test of every number below a bound. A proof unfolds them only where it asks to.
 use Prim.Native.Nat.{ℕ, zero, suc}
 use mathlib.Core.Bool.{Bool, true, false, not}
 

@@ -11,7 +11,7 @@ unfoldable pub bound : Trace → ℕ
 bound [] = 0
 bound (i ∷ trace) = (6 + i .executionLatency + i .fetchLatency + i .dataLatency) + bound trace
 
--- the least number from t on, with at most `more` tried, at which the test passes
+-- the least number from t on at which the test passes, or t + more if it fails at the first `more` numbers
 unfoldable pub leastFrom : (ℕ → Bool) → ℕ → ℕ → ℕ
 leastFrom test zero t = t
 leastFrom test (suc more) t = elim (test t) [ true ↦ t | false ↦ leastFrom test more (suc t) ]
@@ -47,7 +47,7 @@ pub record Known (i : Instruction) : Type 0 where
   pub fetch : ¬ (i .fetch ≡ unknown)
   pub access : ¬ (i .access ≡ unknown)
 
--- every unknown flag made the one flag
+-- every unknown flag replaced by the same flag
 unfoldable pub settleFlag : Flag → Flag → Flag
 settleFlag to hit = hit
 settleFlag to miss = miss
@@ -73,7 +73,8 @@ unfolding settleInstruction
 settle to [] = []
 settle to (i ∷ trace) = settleInstruction to i ∷ settle to trace
 
--- the finishing times with every unknown flag a hit, and a miss: that no settling finishes earlier or later is shown, not assumed
+-- the finishing times with every unknown flag a hit, and with every one a miss; that no settling finishes earlier or later is proved
+-- (`SettlingsEnclosed`), not assumed
 unfoldable pub best : Trace → ℕ
 best trace = finish (settle hit trace)
 

@@ -11,7 +11,7 @@ pub struct Slot {
     pub count: u32,
 }
 
-// Instructions below `fetched` have left pre. Those in no slot are post.
+// Instructions below `fetched` have left pre; those of them that are in no slot are in post.
 #[repr(C)]
 pub struct State {
     pub fetched: u32,

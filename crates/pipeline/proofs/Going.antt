@@ -39,7 +39,7 @@ unfolding instructionOf
 is-pending trace k held f e q =
     q ∙ and-under (held .filled) λ t. ap (λ (j : Instruction). pending (j .kind) (record { stage = k; count = held .count })) (e t)
 
--- a slot holds another back if it is pending, older and waited for
+-- what a slot holds keeps another back if it is pending, older and waited for
 reorder : (a b c d : Bool) → (a and b and c and d) ≡ (a and c and (b and d))
 unfolding _and_
 reorder true true c d = refl
@@ -74,7 +74,7 @@ pub held-by
 unfolding heldBack
 held-by trace s at i p q r t u v = either-of (either-of (either-of (either-of (either-of p q) r) t) u) v
 
--- seven bits that a test gives
+-- seven bits, each given by a test of its stage
 pub bits-are
     : (f : Stage → Bool) {a b c d e g h : Bool} →
     a ≡ f pre →

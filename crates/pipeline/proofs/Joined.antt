@@ -1,4 +1,4 @@
--- The code's conjunctions and disjunctions are the shut connectives of the rules.
+-- The code's conjunctions and disjunctions are the rules' connectives.
 use mathlib.Core.Bool.{Bool, true, false, not, cond, _&&_, _||_}
 use mathlib.Core.Path.{_≡_, refl, ap, ap₂, _∙_}
 use Rattle.machine.proofs.Connectives.{clash}
@@ -61,7 +61,7 @@ module _ {a o x y : Bool} (p : a ≡ x) (q : o ≡ y) where
   pub unguarded : (h : Bool) → (a && o) ≡ false → false ≡ (x and h and y)
   unguarded h e = failing a o h e ∙ (λ i. p i and h and q i)
 
--- conjunctions made part by part
+-- a conjunction of conjunctions is one conjunction
 three : (a b c d : Bool) → (a and (b and c and d)) ≡ (a and b and c and d)
 unfolding _and_
 three true b c d = refl

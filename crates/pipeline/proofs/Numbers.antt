@@ -8,7 +8,7 @@ use borrow.Author.Tests.{ne-eqb}
 use Rattle.machine.specs.Rules.{isLoad, isStore, isBranch, hits, misses}
 use Rattle.record.specs.Rules.{kindOf, flagOf}
 
--- a fact of the four kinds' numbers, and of every other, which counts as plain
+-- a fact that holds for the four kinds' numbers, and for every other number, which counts as plain
 kinds : (P : ℕ → Type 0) → P 0 → P 1 → P 2 → P 3 → ((n : ℕ) → P (suc (suc (suc (suc n))))) → (n : ℕ) → P n
 kinds P a b c d e zero = a
 kinds P a b c d e (suc zero) = b

@@ -24,7 +24,7 @@ module _ (trace : Trace) (s : State) where
       let coming = standing trace s (before k) .index in
       e ∙ (λ i. slotAfter (a i) coming (entry (instruction trace coming) k) (g i) (slot s k))
 
-  -- who moves stands in a slot
+  -- what moves is there: a slot is filled, or an instruction is left to be fetched
   pub leaves-filled : (k : Stage) → same k post ≡ false → leaves trace s k ≡ true → standing trace s k .filled ≡ true
   unfolding leaves goes
   leaves-filled k n e = and-l _ _ (and-l _ _ (and-l _ _ (sym (moves-at _ _ _ k n) ∙ e)))

@@ -1,4 +1,5 @@
--- Who moves is found from who starts: an instruction whose next slot cannot be free does not move anyway. Where nobody starts, nobody moves.
+-- Who moves is found from `starts`: an instruction whose next slot cannot become free does not move anyway. Where no instruction starts, none
+-- moves.
 use Prim.Native.Nat.{ℕ, suc}
 use mathlib.Core.Bool.{Bool, true, false, not, cond, _||_}
 use mathlib.Core.Path.{_≡_, refl, sym, ap, ap₂, fun-ext, _∙_}
@@ -15,7 +16,7 @@ use Rattle.pipeline.specs.Bits.{bitsOf, opens, opensAfter, starts}
 use Rattle.pipeline.specs.Standstill.{stays, standstill}
 use Rattle.pipeline.proofs.Slots.{state-is}
 
--- a test that another implies
+-- a test that another implies may be left out
 implied : (g o f : Bool) → (f ≡ true → o ≡ true) → (g and o and f) ≡ (g and f)
 unfolding _and_
 implied true true f h = refl
@@ -33,7 +34,7 @@ module _ (trace : Trace) (s : State) where
   abbrev free : (Stage → Bool) → Stage → Bool
   free going k = freeAt going (occupied trace s) (storeInMEM trace s) k
 
-  -- a slot that will be free is empty, or its instruction has counted down
+  -- a slot that will be free is empty, or the count of what it holds is 0
   opened : (k : Stage) → same k post ≡ false → free (goes trace s) k ≡ true → opens (standing trace s k) ≡ true
   unfolding goes occupied
   opened k n e = by (value (standing trace s k .filled))

@@ -1,4 +1,4 @@
--- A bit for each stage that an instruction can move out of, as a test of stages gives them.
+-- One bit for each stage that an instruction can leave, each given by a test of its stage.
 use mathlib.Core.Bool.{Bool, true, false, not}
 use lib.Dec.{eqb}
 use Rattle.machine.specs.Test.{_and_, _or_}
@@ -30,11 +30,11 @@ pendingSlot trace k held = held .filled and pending (instruction trace (held .in
 abbrev pub pendingIn : Trace → State → Stage → Bool
 pendingIn trace s k = pendingSlot trace k (slot s k)
 
--- the slot may be free after the cycle: it is empty, or what it holds has counted down
+-- the slot may be free after the cycle: it is empty, or the count of what it holds is 0
 abbrev pub opens : Slot → Bool
 opens held = not (held .filled) or eqb (held .count) 0
 
--- the same of the slot after a stage; nothing is asked of the slots after MEM
+-- the same for the slot after a stage; after MEM and later stages no slot is tested
 abbrev pub opensAfter : State → Stage → Bool
 opensAfter s pre = opens (s .IF)
 opensAfter s IF = opens (s .ID)
@@ -45,6 +45,6 @@ opensAfter s ST = true
 opensAfter s WB = true
 opensAfter s post = true
 
--- who goes, if the slot after may be free
+-- the stage's instruction has count 0 and is ready, and the slot after it may be free
 abbrev pub starts : Trace → State → Stage → Bool
 starts trace s k = goes trace s k and opensAfter s k

@@ -1,5 +1,5 @@
--- The test of orderly states in three parts, as the code makes it: the turn of what stands in IF to MEM and WB, the stores of ST and WB, and
--- the counts.
+-- The test of orderly states in three parts, as the code makes it: the order of the instructions in IF to MEM and WB, which of ST and WB hold a
+-- store, and the counts.
 use Prim.Native.Nat.{ℕ, _+_}
 use mathlib.Core.Bool.{Bool, not, cond}
 use lib.Dec.{ltb, leb, eqb}
@@ -10,7 +10,7 @@ use Rattle.machine.specs.State.{slot, younger}
 use Rattle.machine.specs.declared.Slot.{Slot}
 use Rattle.machine.specs.declared.State.{State}
 
--- a filled slot holds the youngest fetched instruction that none of the younger ones' slots holds
+-- a filled slot holds the youngest fetched instruction that none of the `younger` filled slots before it holds
 abbrev pub turnOf : Slot → ℕ → ℕ → Bool
 turnOf held younger fetched = not (held .filled) or eqb (held .index + younger + 1) fetched
 

@@ -1,5 +1,5 @@
--- What the step's inner functions go by: the fields of the instruction that stands in each stage, read once a cycle. A promise about them is
--- one for every trace that has these instructions there.
+-- What Step's inner functions work from: the fields of the instruction in each stage, read once in a cycle. Their contracts hold for every trace
+-- that has these instructions in these stages.
 use mathlib.Core.Bool.{true}
 use mathlib.Core.Path.{_≡_}
 use Rattle.machine.specs.Instruction.{Trace, instruction}
@@ -7,8 +7,8 @@ use Rattle.machine.specs.declared.State.{State}
 use Rattle.record.specs.Rules.{instructionOf}
 use Rattle.pipeline.specs.declared.reading.Standing.{Standing}
 
--- the fields are those of the trace's instructions that stand in the slots, an empty one is asked about in MEM alone; in pre stands the next to be
--- fetched
+-- the fields are those of the trace's instructions in the slots, and in pre those of the next instruction to be fetched; of an empty slot's fields
+-- something is known in MEM only
 pub record Reads (trace : Trace) (s : State) (w : Standing) : Type 0 where
   pub pre : instructionOf (w .pre) ≡ instruction trace (s .fetched)
   pub IF : s .IF .filled ≡ true → instructionOf (w .IF) ≡ instruction trace (s .IF .index)

@@ -1,4 +1,4 @@
--- A cycle in which nobody moves: what stands in a slot stays, its count less 1, and an empty slot is empty.
+-- A cycle in which no instruction moves: what is in a slot stays, with its count less 1, and an empty slot stays empty.
 use mathlib.Core.Bool.{false}
 use Rattle.machine.specs.declared.Slot.{Slot}
 use Rattle.machine.specs.declared.State.{State}

@@ -23,8 +23,8 @@ use machine::Slot;
 use machine::State;
 use record::Fields;
 
-// The level that an instruction of the kind has yet to reach with count 0 while others may wait for
-// it; none waits for a plain one.
+// The level that an instruction of the kind has to reach with count 0 before others stop waiting
+// for it; nobody waits for a plain one.
 fn goal(kind: u32) -> u32
     ensures { λ r. ⌜ r ≡ goalLevel (kindOf kind) ⌝ }
 {
@@ -54,7 +54,7 @@ fn reads(f: Fields, register: u32) -> bool
     (register != 0) & ((f.source1 == register) | (f.source2 == register))
 }
 
-// At the level the first instruction waits for the second while that is older and pending.
+// At this level the first instruction waits for the second, if the second is older and pending.
 fn waits_for(level: u32, i: Fields, j: Fields) -> bool
     ensures { λ r. ⌜ r ≡ waitsFor (stageAt level) (instructionOf i) (instructionOf j) ⌝ }
 {
@@ -78,7 +78,7 @@ fn slot_pending(level: u32, held: Slot, kind: u32) -> bool
     held.filled & pending(kind, level, held.count)
 }
 
-// Which slots hold a pending instruction, for all that may wait in this cycle.
+// Which slots hold a pending instruction, found once for all that may wait in this cycle.
 pub(crate) fn pending_slots(s: State, w: Standing) -> Bits
     ensures { λ r. ⌜ ((trace : Trace) → Reads trace s w → r ≡ bitsOf (pendingIn trace s)) ⌝ }
 {
@@ -93,8 +93,8 @@ pub(crate) fn pending_slots(s: State, w: Standing) -> Bits
     }
 }
 
-// An instruction that may be pending, at index `other` with fields j, holds instruction `index`, with
-// fields i, back at its level.
+// The instruction at index `other`, with fields j, is pending and holds back instruction `index`,
+// with fields i, at this level.
 fn holds_back(level: u32, i: Fields, index: u32, pending: bool, other: u32, j: Fields) -> bool
     ensures { λ r. ⌜ r ≡ (pending and ltb other index and waitsFor (stageAt level) (instructionOf i) (instructionOf j)) ⌝ }
 {

@@ -71,8 +71,8 @@ fn next(store: bool, level: u32) -> u32
     level + 1
 }
 
-// `going` has who could move, count 0 and ready; `full` which stages are filled; `store` is whether
-// MEM holds a store.
+// `going` says which instructions have count 0 and are ready, `full` which stages are filled, and
+// `store` whether MEM holds a store.
 fn moves(going: u32, full: u32, store: bool, level: u32) -> bool
     requires { ⌜ level < 7 ⌝ }
     ensures { λ r. ⌜ r ≡ movesAt (bits going) (bits full) store (stageAt level) ⌝ }

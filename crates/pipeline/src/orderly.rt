@@ -18,7 +18,7 @@ use machine::Slot;
 use machine::State;
 
 // A filled slot holds the youngest fetched instruction that none of the `younger` filled slots
-// before it holds. Wide, since any index may be asked about.
+// before it holds. The sum is made in 64 bits, since a given state may hold any 32-bit index.
 fn in_turn(held: Slot, younger: u64, fetched: u32) -> bool
     requires { ⌜ younger ≤ 4 ⌝ }
     ensures { λ r. ⌜ r ≡ turnOf held younger fetched ⌝ }
@@ -52,7 +52,7 @@ fn in_flight(s: State) -> u64
     filled(s.IF) + filled(s.ID) + filled(s.EX) + filled(s.MEM)
 }
 
-// No more fetched than there are; from IF to MEM and in WB the instructions stand in turn.
+// The fetched count is at most n; in IF to MEM and in WB the instructions are in turn.
 fn in_order(n: u32, s: State) -> bool
     ensures { λ r. ⌜ r ≡ inOrder n s ⌝ }
 {

@@ -1,5 +1,5 @@
-// The instructions that stand in the pipeline: their fields, read once a cycle, and what the rules
-// ask of them, their kinds and their counts on entry.
+// The instructions in the pipeline: their fields, read once in a cycle, and what the rules ask of
+// them: kinds, flags and counts on entry.
 ghost use mathlib.Core.Path.{_≡_};
 ghost use mathlib.Core.Bool.{true};
 ghost use mathlib.Core.List.{List};
@@ -45,7 +45,8 @@ fn fields(body: &[u8], k: u32) -> Fields
     fields_at(body, k).fields
 }
 
-// The fields of the slot's instruction; an empty slot's are not read, and nothing is said of them.
+// The fields of the slot's instruction; for an empty slot no record is read, and nothing is
+// promised of the fields.
 fn held_fields(body: &[u8], held: Slot) -> Fields
     ensures { λ r. ⌜ (held .filled ≡ true → instructionOf r ≡ instruction (traceOf (now (body .entry))) (held .index)) ⌝ }
 {

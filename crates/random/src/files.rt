@@ -6,8 +6,8 @@ use crate::traces::Draft;
 use job::locate;
 use writer::write;
 
-// A file, or what is left of one; the numbers that Write gave with room and without, and whether the
-// model gives them too.
+// A file, whole or damaged; the refusals that Write gave with room for it and without, and whether
+// the model gives the same.
 pub struct File {
     pub bytes: [u8; 160],
     pub length: usize,
@@ -16,7 +16,7 @@ pub struct File {
     pub agree: bool,
 }
 
-// What Write is given: as many of the counts.
+// What Write is given: the first `length` of these counts.
 struct List {
     counts: [u16; 17],
     length: usize,
@@ -33,7 +33,7 @@ fn low(n: u32) -> u16 {
     (n % 65536) as u16
 }
 
-// Three counts that share n instructions out.
+// Three counts that add up to n.
 fn shares(n: u32, d: Dice) -> [u16; 3] {
     let a = part(d, 5, n as u64 + 1);
     if a > n {
@@ -75,7 +75,7 @@ fn few<'a>(counts: &'a [u16], n: usize) -> &'a [u16] {
     counts
 }
 
-// An output of 20 bytes has room for three empty traces alone.
+// An output of 20 bytes has room for three empty traces and nothing more.
 fn short_write(counts: &[u16], records: &[u8]) -> u32 {
     let mut out = [0u8; 20];
     let answer = write(counts, records, &mut out);
@@ -102,14 +102,14 @@ pub fn written(records: &[u8], n: usize, d: Dice) -> File {
     }
 }
 
-// 65,537 bytes are too many to open.
+// A file of 65,537 bytes, one too many to open.
 fn long_file_agrees() -> bool {
     let file = [0u8; 65537];
     let all: &[u8] = &file;
     opens_alike(all, 0)
 }
 
-// And 6,553 records too many to write.
+// 6,553 records, too many to write.
 fn long_records_agree() -> bool {
     let records = [0u8; 65530];
     let all: &[u8] = &records;
@@ -129,7 +129,7 @@ pub fn refusal_at(file: &[u8], trace: u32) -> u32 {
     found.refusal
 }
 
-// Open answers as the model does at a trace number.
+// Open answers for a trace number as the model does.
 fn opens_alike(file: &[u8], trace: u32) -> bool {
     let found = locate(file, trace);
     let expected = model::open(file, trace);
@@ -146,7 +146,7 @@ fn opens_alike(file: &[u8], trace: u32) -> bool {
     found.start == expected.start && length == expected.length
 }
 
-// At every trace number from 0 to 3, of which 3 is past the last.
+// For every trace number from 0 to 3; a file of three traces has no trace 3.
 pub fn file_agrees(file: &[u8]) -> bool {
     opens_alike(file, 0) && opens_alike(file, 1) && opens_alike(file, 2) && opens_alike(file, 3)
 }
@@ -199,7 +199,7 @@ fn padded(body: [u8; 120]) -> [u8; 160] {
     bytes
 }
 
-// A body with one byte changed, or cut within a record.
+// A body with one byte changed, cut anywhere, or one byte longer.
 pub fn broken(draft: Draft, d: Dice) -> File {
     let body = draft.bytes;
     let bytes = padded(body);

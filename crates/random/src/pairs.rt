@@ -1,5 +1,5 @@
-// A second trace, alike but for hits turned to misses and longer latencies, and the order between the
-// two: no instruction is ever further on in the second.
+// A second trace that differs by hits turned into misses and longer latencies only, and the order
+// between the two: no instruction is ever further on in the second.
 use crate::dice::Dice;
 use crate::dice::rolled;
 use crate::dice::small;
@@ -26,7 +26,7 @@ fn slower_flags(b: u8, d: Dice, memory: bool) -> u8 {
     b % 16 + fetch + access * 4
 }
 
-// An execution latency or the low byte of another latency, up to 3 more.
+// An execution latency, or the low byte of another latency, made longer by up to 3.
 fn slower_latency(b: u8, d: Dice) -> u8 {
     if b < 250 {
         return b + small(d, 20, 4) % 4;

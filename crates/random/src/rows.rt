@@ -27,7 +27,8 @@ pub fn same_state(s: State, t: Trace, p: Places) -> bool {
     front && middle && same_slot(s.ST, t, p, model::ST) && same_slot(s.WB, t, p, model::WB)
 }
 
-// The row after `cycle` cycles by Run; past the finishing time the run stops there.
+// Run gives the model's row after `cycle` cycles; past the finishing time the run has stopped
+// there.
 fn row_agrees(body: &[u8], cycle: u32, finish: u32, t: Trace, p: Places) -> bool {
     let ran = run(body, cycle);
     let cycles = if cycle < finish { cycle } else { finish };
@@ -37,13 +38,13 @@ fn row_agrees(body: &[u8], cycle: u32, finish: u32, t: Trace, p: Places) -> bool
         && same_state(ran.state, t, p)
 }
 
-// Step of the row is the next row.
+// Step gives the model's next row.
 fn step_agrees(body: &[u8], s: State, t: Trace, p: Places) -> bool {
     let stepped = step(body, s);
     stepped.refusal == 0 && same_state(stepped.state, t, p)
 }
 
-// How many rows Step makes of a trace, of which a million is never reached.
+// How many rows are compared; the cap of a million is never reached.
 fn stepped_rows(finish: u32) -> u32 {
     if finish < 1000000 {
         return finish + 1;

@@ -37,7 +37,7 @@ pub fn nothing() -> Tally {
     }
 }
 
-// One more, or n more; a count this large is never reached.
+// The count and n more; counts as large as the caps here are never reached.
 pub fn more(count: u64, n: u64) -> u64 {
     if count > 1000000000000 {
         return count;

@@ -1,4 +1,4 @@
-// One trace after the other, each held against the model in every way.
+// One trace after the other, each compared with the model in every way.
 use crate::dice::Dice;
 use crate::dice::part;
 use crate::dice::rolled;
@@ -40,7 +40,7 @@ fn rows_turn(body: &[u8], tally: Tally) -> Tally {
     t
 }
 
-// A deadline about the worst time.
+// A deadline near the worst time.
 fn near(worst: u32, slack: u32) -> u32
     requires { ⌜ slack < 65536 ⌝ }
 {
@@ -52,7 +52,7 @@ fn near(worst: u32, slack: u32) -> u32
     slack
 }
 
-// Margins about the worst time, with their sign.
+// A margin for a deadline near the worst time, with its sign.
 fn margin_turn(body: &[u8], worst: u32, d: Dice, tally: Tally) -> Tally {
     let deadline = near(worst, part(d, 7, 5));
     let mut t = held(tally, margin_agrees(body, worst, deadline));
@@ -123,7 +123,7 @@ pub fn unknown_turn(draft: Draft, tally: Tally) -> Tally {
     margin_turn(body, times.worst, draft.dice, t)
 }
 
-// A job file of the trace as it was written.
+// A job file as Write made it.
 fn opened_turn(file: &[u8], tally: Tally) -> Tally {
     let mut t = held(seen(tally, refusal_at(file, 3)), file_agrees(file));
     t.files = more(t.files, 1);
@@ -147,7 +147,7 @@ fn both_turns(file: File, d: Dice, tally: Tally) -> Tally {
     damaged_turn(first(rest, hurt.length), t)
 }
 
-// A job file of the trace; where Write refuses there is none.
+// A job file of the trace, unless Write refuses to make one.
 pub fn file_turn(draft: Draft, tally: Tally) -> Tally {
     let n = length_of(draft);
     let bytes = draft.bytes;

@@ -1,4 +1,4 @@
--- What a body that nothing refuses has: few and whole records, each within the rules, and, where unknown flags are refused too, none of those.
+-- What is known of an accepted body: at most 4,096 records, all whole, each within the rules; and no unknown flag, where those are refused too.
 use Prim.Native.Nat.{ℕ, _+_, _*_, _%_, _≤_, _<_}
 use mathlib.Core.Bool.{Bool, true, false, _&&_}
 use mathlib.Core.List.{List}
@@ -19,7 +19,7 @@ and-true : (a b : Bool) → (a && b) ≡ true → (a ≡ true) × (b ≡ true)
 and-true true b e = (refl, e)
 and-true false b e = (e, cc)
 
--- a lawful length alone
+-- from the length alone
 module _ (body : List ℕ) (lawful : lengthRefusal body ≡ 0) where
   lengths : (eqb (length body % recordSize) 0 ≡ true) × (leb (records body) 4096 ≡ true)
   unfolding lengthRefusal
@@ -32,7 +32,7 @@ module _ (body : List ℕ) (lawful : lengthRefusal body ≡ 0) where
   whole-by-length = let rest = eqb-true (length body % recordSize) 0 (lengths .0) in omega arith
 
 module _ (body : List ℕ) where
-  -- what it takes to be accepted, and below what it gives
+  -- what suffices for a body to be accepted; below, what follows from it
   pub accepted-of
       : length body ≡ records body * recordSize →
       records body ≤ 4096 →

@@ -1,4 +1,4 @@
--- Ten bytes decide a record's fields and whether it breaks its rules, wherever they stand.
+-- A record's fields, and whether it breaks its rules, depend on its ten bytes only, not on where they are.
 use Prim.Native.Nat.{ℕ, _+_, _*_, _<_}
 use mathlib.Core.List.{List}
 use mathlib.Core.Path.{_≡_}

@@ -1,4 +1,4 @@
--- Which instruction stands where in the trace of a body, and which byte stands where in the body of a trace: by induction on how many there are.
+-- Which instruction is at each index in the trace of a body, and which byte at each index in the body of a trace, by induction on their number.
 use Prim.Native.Nat.{ℕ, zero, suc, _+_, _*_, _<_}
 use mathlib.Core.List.{List, [], _∷_}
 use mathlib.Core.Logic.{⊎-elim}

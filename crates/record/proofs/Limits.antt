@@ -1,4 +1,5 @@
--- A record's rules as limits that follow from its kind, which is how the code tests them: the flags byte by each number below 16, then all by the kind.
+-- A record's rules as limits that depend on its kind, which is how the code tests them. The tests of the flags byte agree by computation on each
+-- number below 16; the rest is by cases of the kind.
 use Prim.Native.Nat.{ℕ, zero, suc, _/_, _%_, _<_}
 use mathlib.Core.Bool.{Bool, true, false, not, cond, _||_, Bool·beq, or-true, or-false}
 use mathlib.Core.Path.{_≡_, refl, sym, _∙_}
@@ -25,7 +26,7 @@ beq-same true false e = cc
 beq-same false true e = cc
 beq-same false false e = refl
 
--- Two tests of the flags byte that agree on each number below 16, and both pass above.
+-- Two tests of the flags byte that agree on each number below 16, and both pass from 16 on, are equal.
 module _ (a b : ℕ → Bool) (below : every (λ n. Bool·beq (a n) (b n)) 16 ≡ true) (above : (n : ℕ) → 15 < n → (a n ≡ true) × (b n ≡ true)) where
   either : (n : ℕ) → Tri n 16 → a n ≡ b n
   either n (less l) = beq-same _ _ (every-at _ 16 below n l)
@@ -35,7 +36,7 @@ module _ (a b : ℕ → Bool) (below : every (λ n. Bool·beq (a n) (b n)) 16 �
   agree : (n : ℕ) → a n ≡ b n
   agree n = either n (tri n 16)
 
--- `badFlags` of the byte alone; with no stray data bits where the kind allows them, and with those where it does not
+-- `badFlags` in terms of the byte; then the code's test of the byte, for kinds that have data bits and for kinds that have none
 abbrev badByte : ℕ → Bool
 badByte flags = eqb (flags % 4) 3 || eqb (flags / 4 % 4) 3 || ltb 15 flags
 
@@ -64,7 +65,7 @@ no-target : (target : ℕ) → ltb 0 target ≡ (ltb 31 target || not (eqb targe
 no-target zero = refl
 no-target (suc n) = rw (lt-ltb 0 (suc n) (omega arith), ne-eqb (suc n) 0 (omega arith)) (sym (or-true (ltb 31 (suc n))))
 
--- the tests of the rules in their order, of which the code joins the two on the flags and the two on the target
+-- the rules test flags and stray data bits, target and stray target apart; the code makes one test of each pair
 regroup
     : (bad stray-access a b c stray-target e d : Bool) →
     (bad || stray-access || a || b || (c || stray-target) || e || d) ≡ (bad || stray-access || (a || b || c) || stray-target || e || d)
@@ -75,7 +76,7 @@ regroup false false false true c t e d = refl
 regroup false false false false c t e d = refl
 
 module _ (flags source1 source2 target execution fetchLatency dataLatency : ℕ) where
-  -- by what the kind makes of the tests on the flags, the target and the data latency
+  -- the whole test, given what the tests of flags, target and data latency come to for a kind
   joined
       : {on-flags on-target on-latency bad-latency : Bool} (stray-access stray-target : Bool) →
       on-flags ≡ (badByte flags || stray-access) →
@@ -124,7 +125,7 @@ module _ (flags source1 source2 target execution fetchLatency dataLatency : ℕ)
       joined (not (eqb (flags / 4 % 4) 0)) (not (eqb target 0)) (no-data-flags flags) (no-target target) (beq-false (eqb dataLatency 0))
   by-kind (suc (suc (suc (suc n)))) = rw (lt-ltb 3 (suc (suc (suc (suc n)))) (omega arith))
 
--- what the code tests, of fields whose two flags are those of the byte
+-- the code's test is the rules', for fields whose two flags are those of the byte
 pub limits
     : (f : Fields) (flags most-flags most-target : ℕ) →
     f .fetch ≡ flags % 4 →

@@ -1,11 +1,12 @@
--- Kinds, flags and two-byte numbers are written and read back, and read and written back: by cases, and by arithmetic on remainders.
+-- Writing kinds, flags and two-byte numbers and reading them gives them back, and so does reading and writing: by cases, and by arithmetic on
+-- remainders.
 use Prim.Native.Nat.{ℕ, zero, suc, _+_, _*_, _/_, _%_, _≤_, _<_}
 use mathlib.Core.Path.{_≡_, refl}
 use native.Mathlib.Omega.{arith}
 use Rattle.machine.specs.Instruction.{Kind, plain, load, store, branch, Flag, hit, miss, unknown}
 use Rattle.record.specs.Rules.{kindOf, kindNumber, flagOf, flagNumber}
 
--- written and read back
+-- written, then read
 pub kindOf-number : (k : Kind) → kindOf (kindNumber k) ≡ k
 unfolding kindOf
 kindOf-number plain = refl
@@ -40,7 +41,7 @@ module _ (fetch access : Flag) where
 pub half-of-bytes : (n : ℕ) → n % 256 + 256 * (n / 256) ≡ n
 half-of-bytes n = omega arith
 
--- read and written back
+-- read, then written
 pub number-kindOf : (n : ℕ) → n ≤ 3 → kindNumber (kindOf n) ≡ n
 unfolding kindOf
 number-kindOf zero l = refl

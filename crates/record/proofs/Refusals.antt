@@ -1,4 +1,4 @@
--- A call goes through its refusals in their order: it answers the first that holds, and what follows where it does not hold.
+-- A call goes through its refusals in their order: where one holds, it is the answer; where it does not hold, the rest of the list decides.
 use Prim.Native.Nat.{ℕ, suc}
 use mathlib.Core.Path.{_≡_, refl, sym, _∙_}
 use mathlib.Core.Bool.{Bool, true, false}
@@ -15,14 +15,14 @@ pub then-some : (first second : ℕ) → (first ≡ 0 → ⊥) → (first then s
 unfolding _then_
 then-some first second h = rw (ne-eqb _ _ h)
 
--- the same for what a callee answered
+-- the same for a callee's answer
 pub stop : {r first : ℕ} (second : ℕ) → r ≡ first → (r ≡ 0 → ⊥) → r ≡ (first then second)
 stop second e h = e ∙ sym (then-some _ second (λ q. h (e ∙ q)))
 
 pub go-on : {r q first second : ℕ} → r ≡ first → r ≡ 0 → q ≡ second → q ≡ (first then second)
 go-on e z f = f ∙ sym (then-none _ _ (sym e ∙ z))
 
--- three in their order, the first two joined or the last two
+-- a list of three may be grouped either way
 pub then-joins : (first second third : ℕ) → (first then second then third) ≡ ((first then second) then third)
 then-joins first second third =
     elim (ℕ-discrete first 0) [
@@ -30,7 +30,7 @@ then-joins first second third =
       | no h ↦ then-some first (second then third) h ∙ rw (then-some first second h) (sym (then-some first third h))
     ]
 
--- where nothing refuses, neither does
+-- if a list gives no refusal, neither part does
 pub then-first : (first second : ℕ) → (first then second) ≡ 0 → first ≡ 0
 then-first first second e = elim (ℕ-discrete first 0) [ yes z ↦ z | no h ↦ sym (then-some first second h) ∙ e ]
 
@@ -43,7 +43,7 @@ unfolding _unless_
 unless-passed n true e = refl
 unless-passed n false e = absurd (suc-ne-zero n e)
 
--- a test on the way, failed and passed, and the last
+-- a test within the list that fails or passes, and the last test
 pub fails : (n : ℕ) {ok : Bool} (second : ℕ) → ok ≡ false → suc n ≡ (suc n unless ok then second)
 unfolding _unless_
 fails n second e = stop second (rw e) (λ z. suc-ne-zero n z)

@@ -1,4 +1,5 @@
--- An accepted body is the encoding of its trace, and an encoded trace is decoded: record by record, since each byte of the body stands in one.
+-- An accepted body is the encoding of its trace, and decoding an encoded trace gives it back: record by record, since each byte of a body belongs
+-- to one record.
 use Prim.Native.Nat.{ℕ, _+_, _*_, _/_, _%_, _≤_, _<_}
 use mathlib.Core.List.{List}
 use mathlib.Core.Path.{_≡_, sym, ap, subst, _∙_}
@@ -91,7 +92,7 @@ module _ (trace : Trace) (k : ℕ) (l : k < length trace) where
   unfolding breaksAt
   breaks-bodyOf = rw (fields-bodyOf, record-byte flagsAt (omega arith))
 
--- a record has room for every kind and flag, and its halves for any number, so this needs no rule
+-- this holds whether or not the records keep the rules, since every kind and flag has a number and the definitions put no limit on a half
 pub trace-again : (trace : Trace) → traceOf (bodyOf trace) ≡ trace
 trace-again trace =
     ext-getD blank (traceOf (bodyOf trace)) trace same-length λ k l.

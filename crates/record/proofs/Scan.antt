@@ -1,5 +1,5 @@
--- A loop that looks for the first number at which a test passes, against `none`: what it knows at its head and after a turn, and the refusal that
--- it answers.
+-- A loop that looks for the first number at which a test passes, compared with `none`: its invariant at the start and after a turn, and the refusal
+-- that it gives.
 use Prim.Native.Nat.{ℕ, _+_, _<_, _≤_}
 use mathlib.Core.Bool.{Bool, true, false, not, _||_}
 use mathlib.Core.Path.{_≡_, refl, sym, subst}
@@ -24,7 +24,7 @@ module _ (test : ℕ → Bool) where
   unfolding none every _and_
   none-more k before here = rw (add-one k) (rw (before, here))
 
-  -- whether it has passed so far, joined with whether it passes now
+  -- whether the test has passed so far, or passes now
   pub none-joined : (k : ℕ) (found here : Bool) → none test k ≡ not found → here ≡ test k → none test (k + 1) ≡ not (found || here)
   unfolding none every
   none-joined k found here before now = rw (add-one k) (rw (before, sym now) (joined found here))

@@ -1,5 +1,5 @@
--- Every settling of an accepted body's trace is the trace of a body that no call refuses, since each of its records keeps the rules; one is the body
--- with every unknown flag made a hit, or a miss. A body without unknown flags is its own only settling.
+-- Every settling of an accepted body's trace is the trace of a body that no call refuses, since each of its records keeps the rules. The bodies in
+-- which every unknown flag becomes a hit, or every one a miss, are such settlings. A body without unknown flags is its own only settling.
 use Prim.Native.Nat.{ℕ, zero, suc, _≤_, _<_}
 use mathlib.Core.Bool.{false}
 use mathlib.Core.List.{List}
@@ -53,7 +53,7 @@ module _ (body : List ℕ) (b : Bytes body) (accepted : bodyRefusal body ≡ 0) 
 pub settlings-are-bodies : SettlingsAreBodies
 settlings-are-bodies = settling-is-body
 
--- A flag that is a hit or a miss, and the settling that it makes of a body.
+-- The settling of a body in which every unknown flag becomes `to`, a hit or a miss.
 module _ (to : Flag) (u : Settled unknown to) (body : List ℕ) (b : Bytes body) (accepted : bodyRefusal body ≡ 0) where
   as-body : Bytes (settledBody to body) × (settledRefusal (settledBody to body) ≡ 0) × (traceOf (settledBody to body) ≡ settle to (traceOf body))
   unfolding settledBody

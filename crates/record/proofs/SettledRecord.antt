@@ -1,5 +1,5 @@
--- The record of a settled instruction keeps the rules of the record that it settles: settling alters the two flags only, leaves neither unknown, and
--- leaves a hit that the rules want a hit.
+-- The record of a settled instruction keeps the rules if the record that it settles does: settling alters the two flags only, leaves neither
+-- unknown, and does not alter a hit, which is all that the rules allow where there is no data access.
 use Prim.Native.Nat.{ℕ, _+_, _*_, _≤_}
 use mathlib.Core.Bool.{Bool, true, false, not, _&&_}
 use mathlib.Core.Path.{_≡_, refl, ap, subst, _∙_}
@@ -23,7 +23,7 @@ number-known hit k = omega arith
 number-known miss k = omega arith
 number-known unknown k = absurd (k refl)
 
--- a flag whose number the rules want 0 is a hit, and settling leaves it one
+-- a flag whose number has to be 0 is a hit, and settling does not alter a hit
 hit-stays-0 : {flag : Flag} → Settled hit flag → flagNumber flag ≡ 0
 hit-stays-0 hit-stays = refl
 

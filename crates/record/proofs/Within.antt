@@ -1,4 +1,4 @@
--- What a record that breaks no rule tells of its fields, as bounds that arithmetic reads: the joined tests of the rules, taken apart.
+-- What is known of the fields of a record that breaks no rule, as inequalities that arithmetic can use: the rules' joined tests, taken apart.
 use Prim.Native.Nat.{ℕ, zero, suc, _+_, _≤_, _<_}
 use mathlib.Core.Bool.{Bool, true, false, not, _||_, _&&_}
 use mathlib.Core.List.{List}
@@ -16,7 +16,7 @@ pub or-false : (a b : Bool) → (a || b) ≡ false → (a ≡ false) × (b ≡ f
 or-false true b e = (e, cc)
 or-false false b e = (refl, e)
 
--- a rule that holds for some kinds: the kind is one of them, and the rest of the test fails
+-- a rule for some kinds only: if the kind is one of them, the rest of the test fails
 and-false : (a b : Bool) → (a && b) ≡ false → a ≡ true → b ≡ false
 and-false true b e t = e
 and-false false b e t = cc
@@ -38,7 +38,7 @@ one-of : (n a b : ℕ) → OneOf n a b → (eqb n a || eqb n b) ≡ true
 one-of n a b (inl e) = rw (eq-eqb n a e)
 one-of n a b (inr e) = rw (eq-eqb n b e) (or-true (eqb n a))
 
--- what any bytes give
+-- what holds for any bytes
 pub record Sized (f : Fields) : Type 0 where
   pub fetch : f .fetch < 4
   pub access : f .access < 4
@@ -57,7 +57,7 @@ sized bytes at b =
       dataLatency = omega (arith, b (at + dataLatencyAt), b (at + dataLatencyAt + 1));
     }
 
--- what the rules give besides
+-- what the rules add to that
 pub record Within (f : Fields) : Type 0 where
   pub kind : f .kind ≤ 3
   pub fetch : f .fetch ≤ 2

@@ -14,7 +14,7 @@ use Rattle.record.specs.Rules.{breaksRules, hasUnknown, kindNumber, flag
 use Rattle.record.specs.declared.layout.Fields.{Fields}
 use Rattle.record.specs.declared.layout.Read.{Read}
 
--- what a slice of bytes holds
+-- each number is a byte
 abbrev pub Bytes : List ℕ → Type 0
 Bytes bytes = (k : ℕ) → byte bytes k < 256
 
@@ -61,7 +61,7 @@ unfoldable pub bodyOf : Trace → List ℕ
 bodyOf [] = []
 bodyOf (i ∷ trace) = recordOf i ++ bodyOf trace
 
--- the settling in which every unknown flag is the one flag, as a body
+-- the settling in which every unknown flag becomes the same flag, as a body
 unfoldable pub settledBody : Flag → List ℕ → List ℕ
 settledBody to body = bodyOf (settle to (traceOf body))
 

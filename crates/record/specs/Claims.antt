@@ -8,11 +8,11 @@ use Rattle.machine.specs.Instruction.{Instruction, Trace, instruction}
 use Rattle.machine.specs.Time.{Settling}
 use Rattle.record.specs.Body.{Bytes, breaksAt, traceOf, recordOf, bodyOf, bodyRefusal, settledRefusal}
 
--- An accepted body is the encoding of what it decodes to.
+-- An accepted body is the encoding of the trace that it decodes to.
 abbrev pub AcceptedIsEncoded : Type 0
 AcceptedIsEncoded = (body : List ℕ) → Bytes body → bodyRefusal body ≡ 0 → bodyOf (traceOf body) ≡ body
 
--- An instruction whose latencies fit their bytes and whose record is within the rules
+-- an instruction whose latencies fit their bytes and whose record keeps the rules
 pub record Lawful (i : Instruction) : Type 0 where
   pub executionLatency : i .executionLatency < 256
   pub fetchLatency : i .fetchLatency < 65536

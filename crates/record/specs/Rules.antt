@@ -47,7 +47,7 @@ breaksRules f flags =
 unfoldable pub hasUnknown : Fields → Bool
 hasUnknown f = eqb (f .fetch) 2 || eqb (f .access) 2
 
--- The numbers of the kinds and flags, both ways. A number that the rules refuse stands for some kind or flag all the same.
+-- The kind or flag of a number, and the number of a kind or flag. A number that the rules refuse reads as plain or as unknown.
 unfoldable pub kindOf : ℕ → Kind
 kindOf n = cond (eqb n 1) load (cond (eqb n 2) store (cond (eqb n 3) branch plain))
 

@@ -37,10 +37,10 @@ fn limit(test: bool, yes: u32, no: u32) -> u32
     no
 }
 
-// Whether a record breaks its rules. Loads and stores alone have data bits and a data latency,
-// stores and branches no target, so limits follow from the kind: two flags of at most 2 make a byte
-// of at most 10, and a fetch flag alone one of at most 2. Every call tests every record, so the
-// tests are few, and joined before one is looked at.
+// Whether a record breaks its rules. Only loads and stores have data bits and a data latency, and
+// stores and branches have no target, so the limits depend on the kind: the flags byte is at most
+// 10 with two flags of at most 2, and at most 2 with a fetch flag alone. Every call tests every
+// record, so the tests are few and are joined by `|`, without a branch after each.
 fn breaks_rules(f: Fields, flags: u32) -> bool
     requires { ⌜ (f .fetch ≡ flags % 4) × (f .access ≡ flags / 4 % 4) ⌝ }
     ensures { λ r. ⌜ r ≡ breaksRules f flags ⌝ }
@@ -64,7 +64,7 @@ fn breaks_from(bytes: &[u8], at: usize) -> bool
     breaks_rules(fields_from(bytes, at), byte_at(bytes, at + FLAGS))
 }
 
-// Whether a record that breaks no rule has an unknown flag: one above 1 is then 2.
+// Whether a record that breaks no rule has an unknown flag: within the rules a flag above 1 is 2.
 fn unknown_from(bytes: &[u8], at: usize) -> bool
     requires { ⌜ (at + recordSize ≤ length (now bytes)) × (breaksRules (fieldsFrom (now bytes) at) (byte (now bytes) (at + flagsAt)) ≡ false) ⌝ }
     ensures { λ r. ⌜ r ≡ hasUnknown (fieldsFrom (now (bytes .entry)) at) ⌝ }
@@ -105,7 +105,7 @@ fn known_refusal(body: &[u8]) -> u32
     0
 }
 
-// 8 alone: the same pass, its 11 left aside.
+// 8 only, by the same pass: an unknown flag is not refused here.
 pub fn record_refusal(body: &[u8]) -> u32
     ensures { λ r. ⌜ r ≡ recordRefusal (now (body .entry)) ⌝ }
 {

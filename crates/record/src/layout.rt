@@ -1,4 +1,4 @@
-// The nine fields of an instruction's record, as the bytes stand.
+// The nine fields of an instruction's record, read from the bytes as they stand.
 ghost use mathlib.Core.Path.{_≡_};
 ghost use Prim.Native.Nat.{_+_, _≤_};
 ghost use lib.ListN.{length};
@@ -27,7 +27,8 @@ pub const FETCH_LATENCY: usize = 6;
 
 pub const DATA_LATENCY: usize = 8;
 
-// Flags are 0 hit, 1 miss, 2 unknown. Bytes that were never checked may give 3 and any kind to 255.
+// Flags are 0 hit, 1 miss, 2 unknown. In bytes that were never checked a flag may be 3, and a kind
+// anything up to 255.
 #[repr(C)]
 pub struct Fields {
     pub kind: u32,
@@ -65,7 +66,7 @@ pub(crate) fn fields_from(bytes: &[u8], at: usize) -> Fields
     }
 }
 
-// The fields of instruction k of any bytes.
+// The fields of instruction k, whether or not the bytes were checked.
 pub fn fields_at(body: &[u8], k: u32) -> Read
     ensures { λ r. ⌜ r ≡ readAnswer (now (body .entry)) k ⌝ }
 {

@@ -1,5 +1,5 @@
-// The report of the job file on standard input against the deadlines that the arguments give. What
-// cannot be reported is said in one line, which says what to give instead.
+// The report of the job file on standard input against the deadlines that the arguments give. Where
+// there is nothing to report, one line says why and what to give instead.
 mod tell;
 
 use libc::STDIN_FILENO;
@@ -30,8 +30,8 @@ fn keep(deadlines: &mut [u32], i: usize, cycles: u32) {
     deadlines[i] = cycles;
 }
 
-// Puts the deadlines of arguments 1 to `last` into the list, as far as it goes, and answers the first
-// argument that is none, or 0.
+// Puts the deadlines of arguments 1 to `last` into the list, as far as it has room, and gives the
+// first argument that is no deadline, or 0.
 fn read_deadlines(last: usize, deadlines: &mut [u32]) -> usize {
     let mut i = 0;
     while i < last {

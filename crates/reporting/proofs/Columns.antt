@@ -13,7 +13,7 @@ use Rattle.text.proofs.Right.{length-spaces, length-right}
 use Rattle.reporting.specs.Report.{signedText, marginText, column, lineText, lineBytes}
 use Rattle.reporting.specs.declared.figures.Line.{Line}
 
--- a text of a known width ends there
+-- where a text of a known width ends
 pub ends : (at width : ℕ) (text before : List ℕ) {afterwards : List ℕ} {end : ℕ} → length text ≡ width → Wrote at text before afterwards end → (end ≡ at + width) × Wrote at text before afterwards end
 ends at width text before e wrote = (wrote .0 ∙ ap (λ (n : ℕ). at + n) e, wrote)
 
@@ -72,7 +72,7 @@ column-width width text fits =
     let wide = length-right width text fits in
     omega arith
 
--- what a trace's number and its unknown flags must be for their columns
+-- how large a trace's number and its count of unknown flags may be to fit their columns
 pub five-digits : (n : ℕ) → n < 100000 → length (decimal n) ≤ 5
 unfolding tens
 five-digits n h = decimal-few 4 n (omega arith)

@@ -44,7 +44,7 @@ module _ (file : List ℕ) (accepted : fileRefusal file ≡ 0) where
       let flags = unknown-few (traceOf body) in
       omega (arith, length-traceOf body)
 
-  -- any deadline
+  -- for any deadline
   line-fits : (t : ℕ) → t < traces file → (deadline : ℕ) → length (lineText (lineOf t (traceOf (openBody file t)) deadline)) ≡ lineBytes
   unfolding lineOf
   line-fits t inside deadline =

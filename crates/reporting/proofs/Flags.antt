@@ -1,4 +1,4 @@
--- The unknown flags of a trace: an instruction more, at most two for each, and which numbers stand for one.
+-- The unknown flags of a trace: what one more instruction adds, that there are at most two for each, and which numbers stand for an unknown flag.
 use Prim.Native.Nat.{ℕ, zero, suc, _+_, _*_, _≤_, _<_}
 use mathlib.Core.List.{[], _∷_, _++_}
 use mathlib.Core.Path.{_≡_, refl}

@@ -1,5 +1,5 @@
--- What `report` gives is its answer and its output: on a refusal, where the deadlines or the room do not serve, and with the report; and the report
--- lies in the output.
+-- What `report` gives is its answer and its output: on a refusal, where the number of deadlines or the room is wrong, and with the report; and the
+-- report fits the output.
 use Prim.Native.Nat.{ℕ, _≤_, _<_}
 use mathlib.Core.Bool.{true, false}
 use mathlib.Core.List.{List}
@@ -60,7 +60,7 @@ module _ (file deadlines out : List ℕ) where
       rw e (omega arith)
   inside (failed e) = rw e (omega arith)
 
-  -- the report lies in the output
+  -- the report fits the output
   pub report-inside :
       {r : Reported} {afterwards : List ℕ} →
       Given r afterwards →

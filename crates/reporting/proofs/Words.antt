@@ -1,4 +1,4 @@
--- A word read digit by digit: what is read so far and what is left make the same number as the whole, which is never below what is read.
+-- A word read digit by digit: what is read so far and what is left give the same number as the whole, and that is never below what is read so far.
 use Prim.Native.Nat.{ℕ, _+_, _*_, _-_, _≤_, _<_}
 use mathlib.Core.Bool.{true, false}
 use mathlib.Core.List.{List, [], _∷_}
@@ -22,7 +22,7 @@ number-grows [] n = omega arith
 number-grows (byte ∷ word) n = let more = number-grows word (10 * n + (byte - 48)) in omega arith
 
 module _ (word : List ℕ) where
-  -- the first i bytes are digits that make n, as far as the whole word's tests go
+  -- the first i bytes are digits that give n, as far as the tests of the whole word are concerned
   pub record Reading (i n : ℕ) : Type 0 where
     pub digits : allDigits word ≡ allDigits (drop i word)
     pub number : numberFrom 0 word ≡ numberFrom n (drop i word)

@@ -8,8 +8,8 @@ use Rattle.job.specs.Layout.{traces}
 use Rattle.job.specs.Open.{fileRefusal, openBody}
 use Rattle.reporting.specs.Report.{lineOf, lineText, headerText, lineBytes}
 
--- "Columns stay aligned for the largest values": the line of any trace of any accepted file has, for any 32-bit deadline, the header's length. No
--- column is narrower than its width, so that none is wider either.
+-- Columns stay aligned for the largest values: for every trace of an accepted file and every 32-bit deadline, the line has the header's length. A
+-- column is never narrower than its width, so none is wider either.
 pub record LinesAligned : Type 0 where
   pub header : length headerText ≡ lineBytes
   pub line :

@@ -15,7 +15,7 @@ unfoldable pub allDigits : List ℕ → Bool
 allDigits [] = true
 allDigits (byte ∷ word) = isDigit byte and allDigits word
 
--- the number that the digits make after others that make n; zeros before it are no matter
+-- the number that the digits give after others that gave n; leading zeros do not change it
 unfoldable pub numberFrom : ℕ → List ℕ → ℕ
 numberFrom n [] = n
 numberFrom n (byte ∷ word) = numberFrom (10 * n + (byte - 48)) word

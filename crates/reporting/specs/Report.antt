@@ -1,6 +1,6 @@
--- The report of a job file against deadlines, as text: a line for each trace with its number, instructions, unknown flags, best, worst, deadline,
--- and the margin with its sign, `+`, `-` or `0`, first on the line and aligned, since that is the figure people look for; last a line that says how
--- many deadlines are met. Columns stay aligned for the largest values.
+-- The report of a job file against deadlines, as text. A line for each trace begins with the margin and its sign, since that is the figure people
+-- look for; then come the trace's number, instructions, unknown flags, best, worst and deadline. A last line says how many deadlines are met.
+-- Columns stay aligned for the largest values.
 use Prim.Native.Nat.{ℕ, zero, suc, _+_}
 use mathlib.Core.Bool.{Bool, cond}
 use mathlib.Core.List.{List, [], _∷_, _++_}
@@ -17,7 +17,7 @@ use Rattle.text.specs.Text.{space, newline, put, decimal, spaces, right}
 use Rattle.reporting.specs.declared.figures.Line.{Line}
 use Rattle.reporting.specs.declared.whole.Reported.{Reported}
 
--- how many flags of a trace are unknown, "fetch and data"
+-- how many flags of a trace are unknown, of fetches and of data accesses
 unfoldable pub isUnknown : Flag → ℕ
 isUnknown hit = 0
 isUnknown miss = 0
@@ -39,13 +39,13 @@ lineOf number trace deadline =
       deadline = deadline;
     }
 
--- "with its sign, `+`, `-` or `0`"
+-- a number with its sign, `+` or `-`; 0 has none
 unfoldable pub signedText : ℤ → List ℕ
 signedText (pos zero) = 48 ∷ []
 signedText (pos (suc n)) = 43 ∷ decimal (suc n)
 signedText (negsuc n) = 45 ∷ decimal (suc n)
 
--- "the margin", as Margin gives it: deadline minus worst
+-- the margin as the call Margin gives it: deadline minus worst
 unfoldable pub marginText : ℕ → ℕ → List ℕ
 marginText deadline worst = signedText (pos deadline -ℤ pos worst)
 
@@ -76,7 +76,7 @@ headerText =
     ++ column 10 (100 ∷ 101 ∷ 97 ∷ 100 ∷ 108 ∷ 105 ∷ 110 ∷ 101 ∷ [])
     ++ (newline ∷ [])
 
--- every line with its newline, the header too
+-- the length of every line, the header's too, with its newline
 abbrev pub lineBytes : ℕ
 lineBytes = 78
 
@@ -122,7 +122,7 @@ longest = 1365
 unfoldable pub serves : ℕ → ℕ → Bool
 serves deadlines all = eqb deadlines 1 or eqb deadlines all
 
--- what it takes for a report to be written
+-- whether a report is written
 unfoldable pub written : List ℕ → List ℕ → ℕ → Bool
 written file deadlines room = eqb (fileRefusal file) 0 and serves (length deadlines) (traces file) and leb longest room
 

@@ -60,7 +60,7 @@ pub fn deadline_of(word: &[u8]) -> Deadline
     }
 }
 
-// The deadline of trace t: the only one, or its own.
+// The deadline of trace t: the only one given, or its own.
 pub(crate) fn deadline_at(deadlines: &[u32], t: u32) -> u32
     ensures { λ r. ⌜ r ≡ deadlineAt (now (deadlines .entry)) t ⌝ }
 {

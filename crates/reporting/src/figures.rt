@@ -75,7 +75,7 @@ pub(crate) fn line_at(file: &[u8], deadlines: &[u32], t: u32) -> Line
     line_of(cut(file, found.start, found.end), t, deadline)
 }
 
-// 1 where the deadline is met, also where it is met exactly.
+// 1 if the deadline is met, exactly or with time to spare; else 0.
 pub(crate) fn met_by(line: Line) -> u32
     ensures { λ r. ⌜ (r ≡ met line) × (r ≤ 1) ⌝ }
 {

@@ -1,4 +1,4 @@
-// The text of a line: the margin, then the columns, each at its right end.
+// The text of a line: the margin, then the columns, each right-aligned.
 ghost use mathlib.Core.Path.{_≡_};
 ghost use mathlib.Core.List.{_∷_};
 ghost use Prim.Native.Nat.{_+_, _≤_, _<_};

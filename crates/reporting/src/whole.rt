@@ -25,7 +25,7 @@ use text::put_text;
 // Room for any report: the header, 16 lines and the last line, its numbers taken as ten digits.
 pub const REPORT_BYTES: usize = 1365;
 
-// A refused file has traces 0; where no report was written the length is 0.
+// `traces` is 0 for a refused file, and `length` is 0 where no report was written.
 #[repr(C)]
 pub struct Reported {
     pub refusal: u32,
@@ -74,9 +74,9 @@ fn serve(deadlines: usize, all: u32) -> bool
     (deadlines == 1) | (deadlines == all as usize)
 }
 
-// Writes the report to the start of the output, whose bytes past it keep their values. A refused
-// file, deadlines that are neither one nor as many as the traces, and an output with less room than
-// any report may take leave the output as it is.
+// Writes the report to the start of the output; bytes past it keep their values. A refused file,
+// deadlines that are neither one nor as many as the traces, and an output with less room than the
+// longest report may take leave the output as it is.
 pub fn report(file: &[u8], deadlines: &[u32], out: &mut [u8]) -> Reported
     ensures { λ r. ⌜ (r ≡ reportAnswer (now (file .entry)) (now (deadlines .entry)) (length (now (out .entry)))) × (now (out .exit) ≡ reportOutput (now (file .entry)) (now (deadlines .entry)) (now (out .entry))) ⌝ }
 {

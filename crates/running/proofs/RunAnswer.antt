@@ -1,4 +1,4 @@
--- What the whole pass gives is Run's answer: placing at the limit is right because a run may stop at its finishing time.
+-- What the whole pass gives is Run's answer: placing at the limit is right because nothing changes after the finishing time.
 use Prim.Native.Nat.{ℕ, _≤_, min}
 use mathlib.Core.Bool.{false}
 use mathlib.Core.List.{List}
@@ -32,7 +32,7 @@ left-by end limit (more h) = lt-leb end limit h ∙ sym (lt-leb end (min limit e
 left-is : (trace : Trace) (limit : ℕ) → leb (finish trace) limit ≡ allLeft trace (after trace (min limit (finish trace)))
 left-is trace limit = left-by (finish trace) limit (tri (finish trace) limit) ∙ sym (all-left-is trace (min limit (finish trace)))
 
--- the pass ends: there is no more instruction, or not all so far are fetched
+-- why the pass ends: there is no further instruction, or not all so far are fetched
 pub data Stopped (body : List ℕ) (k : ℕ) (seats : List ℕ) : Type 0 where
   no-more : records body ≤ k → Stopped body k seats
   not-fetched : (getD seats 0 0 ≡ k → ⊥) → Stopped body k seats

@@ -1,4 +1,4 @@
--- Run's pass over an accepted body: it begins with the starting state, and at each instruction its calls may be made and together carry it on.
+-- Run's pass over an accepted body: it begins with the starting state, and at each instruction its calls are allowed and together lead to the next.
 use Prim.Native.Nat.{ℕ, _+_, _^_, _≤_, _<_}
 use mathlib.Core.List.{List}
 use mathlib.Core.Path.{_≡_, refl, sym, ap, _∙_}
@@ -82,7 +82,7 @@ module _ {body : List ℕ} {limit k : ℕ} {before : Window} {seats : List ℕ} 
             state = record { long = grown .long; state = grown .state ∙ rw (place-is, here .2 .state .state) (sym (state-grows (after trace limit) k)) };
           }
 
--- an instruction that has left by the limit, as all before it: one more has left
+-- if the first k instructions have left by the limit, and so has instruction k, then the first k + 1 have
 pub goes
     : {body : List ℕ} {limit k : ℕ} {before slid : Window} {read : Read} {times : Times} (bytes : Bytes body) →
     (bodyRefusal body ≡ 0) × (k < records body) × Passed body limit k before (leftSeats k) →

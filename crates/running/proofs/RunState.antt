@@ -13,7 +13,7 @@ use Rattle.machine.specs.declared.State.{State}
 use Rattle.schedule.specs.Code.{numbered}
 use Rattle.running.specs.Placing.{fetchedWith, slotWith, stateWith, stateBelow}
 
--- one more at its stage: in each of the eight cases both sides compute
+-- one more instruction at its stage: by computation in each of the eight cases
 grown : (k count : ℕ) (s : State) (stage : Stage) →
     record {
       fetched = cond (same stage pre) (s .fetched) (suc (s .fetched));
@@ -52,7 +52,7 @@ module _ (places : Places) where
   unfolding stateBelow stateOf
   state-ends trace = refl
 
-  -- no more are fetched than there are
+  -- at most k of the first k instructions are fetched
   pub fetched-below : (k : ℕ) → fetchedBelow places k ≤ k
   unfolding fetchedBelow
   fetched-below zero = omega arith

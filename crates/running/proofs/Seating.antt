@@ -1,5 +1,5 @@
--- The numbers that Run's pass keeps are a state: an instruction's place in them is its place in the state. As their count is known, what stands
--- at each after a store is there by computation.
+-- The numbers that Run's pass keeps stand for a state: placing an instruction in them places it in that state. Since there are exactly thirteen,
+-- what each of them is after a store is found by computation.
 use Prim.Native.Nat.{ℕ, zero, suc, _+_, _-_, _≤_, _<_}
 use mathlib.Core.Bool.{Bool, true, false, cond}
 use mathlib.Core.List.{List, [], _∷_}
@@ -18,7 +18,7 @@ use Rattle.schedule.specs.declared.places.Place as Code
 use Rattle.schedule.proofs.Cases.{in-pre, in-post}
 use Rattle.running.specs.Placing.{fetchedWith, slotWith, stateWith, slotOf, slotSeated, stateSeated, Seated, Rising}
 
--- a list by its elements
+-- a list written out element by element
 abbrev spelled : ℕ → List ℕ → List ℕ
 spelled zero l = []
 spelled (suc n) l = getD l 0 0 ∷ spelled n (drop 1 l)
@@ -36,7 +36,7 @@ pub slot-filled : (n count : ℕ) → (n ≡ 0 → ⊥) → record { filled = tr
 slot-filled zero count h = absurd (h refl)
 slot-filled (suc n) count h = simp unary-clauses refl
 
--- a place in a slot
+-- a place whose stage has a slot
 record Within (p : Place) : Type 0 where
   low : 1 ≤ level (p .stage)
   high : level (p .stage) ≤ 6
@@ -71,7 +71,7 @@ within i e t fetched h =
 pub within-seats : (i : Instruction) (e : Times) (t : ℕ) → e .IF ≤ t → t < e .post → {p : Code.Place} → p ≡ numbered (placeAt i e t) → p .level ≤ 6
 within-seats i e t fetched h q = rw q (within i e t fetched h .high)
 
--- an instruction's times rise
+-- none of an instruction's times is later than that of leaving
 pub rises : (w : Window) (i : Instruction) {e : Times} → e ≡ timesFrom w i → Rising e
 unfolding timesFrom enterID enterEX enterMEM enterLast enterPost
 rises w i p = rw p (record { IF = omega arith; ID = omega arith; EX = omega arith; MEM = omega arith; last = omega arith })
@@ -84,7 +84,7 @@ abbrev placed : List ℕ → ℕ → ℕ → ℕ → List ℕ
 placed l k at count = set (set (counted l) at (suc k)) (6 + at) count
 
 module _ (k : ℕ) (l : List ℕ) (long : length l ≡ 13) where
-  -- the state that the changed numbers give, for all lists of their length where it is so for one that is spelled
+  -- the state that the changed numbers give: shown for a list that is written out, and so for every list of that length
   abbrev Gives : Place → (List ℕ → List ℕ) → List ℕ → Type 0
   Gives p changed l = stateSeated (changed l) ≡ stateWith (numbered p) k (stateSeated l)
 

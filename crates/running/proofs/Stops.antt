@@ -24,7 +24,7 @@ use Rattle.schedule.specs.Code.{numbered}
 use Rattle.running.specs.Placing.{fetchedWith, slotWith, stateWith, stateBelow}
 use Rattle.running.proofs.RunState.{state-grows, state-ends}
 
--- what the state, the count of cycles and "all left" come to does not change any more
+-- the state, the number of cycles run and whether all have left do not change any more
 pub record Ends (trace : Trace) (t k : ℕ) (w : Window) : Type 0 where
   pub state : stateBelow (after trace t) k ≡ stateAfter trace t
   pub cycles : min t (w .finish) ≡ min t (finish trace)

@@ -16,7 +16,7 @@ use Rattle.schedule.specs.Code.{windowOf}
 use Rattle.schedule.specs.declared.levels.Window.{Window}
 use Rattle.schedule.specs.declared.places.Place.{Place}
 
--- one more instruction, k, at its place
+-- a state with instruction k added at its place
 unfoldable pub fetchedWith : Place → ℕ → ℕ
 fetchedWith p fetched = cond (eqb (p .level) (level pre)) fetched (suc fetched)
 
@@ -48,12 +48,13 @@ stateBelow places k =
       WB = occupantBelow places WB k;
     }
 
--- a slot by two numbers, of which the first is one more than the index, 0 for none
+-- a slot as two numbers: one more than the index, or 0 for an empty slot, and the count
 abbrev pub slotOf : ℕ → ℕ → Slot
 slotOf zero count = emptySlot
 slotOf (suc k) count = record { filled = true; index = k; count = count }
 
--- the state that the pass has as thirteen numbers: the fetched count, then for each level from 1 to 6 a slot's first number, then the second ones
+-- the state as the pass keeps it, in thirteen numbers: the fetched count, then the first number of the slot at each level from 1 to 6, then the
+-- second numbers
 unfoldable pub slotSeated : List ℕ → ℕ → Slot
 slotSeated seats at = slotOf (getD seats at 0) (getD seats (6 + at) 0)
 
@@ -69,11 +70,11 @@ stateSeated seats =
       WB = slotSeated seats (level WB);
     }
 
--- the numbers where the first k instructions have left and no other is fetched
+-- the thirteen numbers when the first k instructions have left and no other is fetched
 abbrev pub leftSeats : ℕ → List ℕ
 leftSeats k = k ∷ replicate 12 0
 
--- the numbers are all there and give the state
+-- there are thirteen numbers, and they give the state
 pub record Seated (seats : List ℕ) (s : State) : Type 0 where
   pub long : length seats ≡ 13
   pub state : stateSeated seats ≡ s

@@ -1,6 +1,6 @@
-// Run: the state after a limit of cycles from the start. One pass over the body places every
-// instruction at the limit from its times, so that no cycle is run: it goes quickly over those that
-// have left by then, seats the few that are under way, and ends where none is fetched any more.
+// Run: the state after a limit of cycles from the start. One pass over the body places instructions
+// at the limit from their times, and no cycle is simulated: the pass skips those that have left by
+// then, seats the few that are under way, and ends with the first that is not fetched by then.
 ghost use mathlib.Core.Path.{_≡_};
 ghost use Prim.Native.Nat.{_+_, _≤_, _<_, min};
 ghost use Rattle.record.specs.Body.{records, traceOf, bodyRefusal};
@@ -34,7 +34,7 @@ fn smaller(a: u32, b: u32) -> u32
     if a < b { a } else { b }
 }
 
-// Instruction k of an accepted body: its times from the window, its place at the limit.
+// One step of the pass: instruction k's times from the window, and its place at the limit.
 fn pass_over(body: &[u8], limit: u32, k: u32, w: Window, seats: &mut [u32; SEATS]) -> Window
     requires { ⌜ (bodyRefusal (now body) ≡ 0) × (k < records (now body)) × Passed (now body) limit k w (now seats) ⌝ }
     ensures { λ r. ⌜ Passed (now (body .entry)) limit (k + 1) r (now (seats .exit)) ⌝ }
@@ -46,7 +46,8 @@ fn pass_over(body: &[u8], limit: u32, k: u32, w: Window, seats: &mut [u32; SEATS
     slide(w, f, e)
 }
 
-// How many instructions, from the first on, have all left by a limit, and the window before the next.
+// How many instructions, counted from the first without a gap, have left by a limit, and the window
+// before the next.
 struct Gone {
     count: u32,
     window: Window,

@@ -1,7 +1,7 @@
-// The state that Run's pass builds, as numbers in one array that is lent to it: a State that is
-// carried by value through the loop takes the padding of its six slots along. First stands how many
-// are fetched, then for each level from IF 1 to WB 6 one more than the index of the instruction there,
-// 0 where there is none, then their counts.
+// The state that Run's pass builds, as numbers in one array that is lent to the pass: a State
+// carried by value through the loop would be copied with the padding of its six slots. First comes
+// the fetched count; then, for each level from IF 1 to WB 6, one more than the index of the
+// instruction there, or 0 if there is none; then their counts.
 ghost use mathlib.Core.Path.{_≡_};
 ghost use Prim.Native.Nat.{_+_, _<_, _≤_, _^_};
 ghost use lib.ListN.{getD, length};
@@ -23,11 +23,11 @@ use schedule::places::WB;
 
 pub(crate) const SEATS: usize = 13;
 
-// From a seat to its count.
+// How far after a seat its count is.
 const COUNTS: usize = 6;
 
-// One more instruction, k: counted unless it is in pre, and seated where it has a slot. Its first and
-// last times say of nearly every one that it has none, before its place is looked for.
+// Adds instruction k: it is counted unless it is in pre, and seated if it is in a slot. Most
+// instructions are in pre or post, which their first and last times tell without computing a place.
 pub(crate) fn seat(seats: &mut [u32; SEATS], f: Fields, e: Times, limit: u32, k: u32)
     requires { ⌜ (length (now seats) ≡ 13) × Rising (timesOf e) × (getD (now seats) 0 0 + 1 < 2 ^ 32) × (k + 1 < 2 ^ 32) ⌝ }
     ensures { λ _. ⌜ Seated (now (seats .exit)) (stateWith (numbered (placeAt (instructionOf f) (timesOf e) limit)) k (stateSeated (now (seats .entry)))) ⌝ }

@@ -1,5 +1,5 @@
--- The trace of an accepted body, for a pass over it: it is small, and reading record k, its unknown flags settled, gives the settled trace's
--- instruction k.
+-- What a pass over an accepted body needs: the trace's bound is within the limit, and record k, read with its unknown flags settled, gives
+-- instruction k of the settled trace.
 use Prim.Native.Nat.{ℕ, zero, suc, _≤_, _<_}
 use mathlib.Core.List.{List}
 use mathlib.Core.Bool.{true, false}
@@ -30,7 +30,7 @@ within-limited : (f : Fields) → Within f → Limited (instructionOf f)
 unfolding instructionOf
 within-limited f w = record { executionLatency = w .execution; fetchLatency = w .fetchLatency .1; dataLatency = w .dataLatency }
 
--- a lawful record stands for a lawful instruction, also when it is settled
+-- a lawful record stands for a lawful instruction, settled or not
 lawful-kind : (n : ℕ) → n ≤ 3 → (isLoad (kindOf n) or isStore (kindOf n)) ≡ false → OneOf n 0 3
 unfolding kindOf _or_
 lawful-kind zero l e = inl refl

@@ -1,4 +1,4 @@
--- The place that the code names in each of its seven cases, over plain variables: the case's tests choose it.
+-- In each of its seven cases the code gives the place that the definition's tests choose: stated over plain variables.
 use Prim.Native.Nat.{ℕ, _-_, _≤_, _<_}
 use mathlib.Core.Bool.{Bool, true, false, cond}
 use mathlib.Core.Path.{_≡_, refl}

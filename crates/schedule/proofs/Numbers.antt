@@ -1,4 +1,4 @@
--- Tests of a record's numbers against tests of the kind and flag that they stand for: by cases of the number, of which only the first few differ.
+-- Tests of a record's numbers are tests of the kind or flag that they stand for: by cases of the number, of which only the first few differ.
 use Prim.Native.Nat.{ℕ, zero, suc, _≤_}
 use mathlib.Core.Bool.{Bool, true, false, not, cond, _||_, _&&_}
 use mathlib.Core.Path.{_≡_, refl}
@@ -52,7 +52,7 @@ miss-number zero = refl
 miss-number (suc zero) = refl
 miss-number (suc (suc n)) = rw (past-flags n 0 (omega arith), past-flags n 1 (omega arith))
 
--- every number past 1 stands for unknown
+-- every number above 1 stands for unknown
 pub settled-number : (n to : ℕ) → flagOf (cond (ltb 1 n) to n) ≡ settleFlag (flagOf to) (flagOf n)
 unfolding flagOf settleFlag
 settled-number zero to = refl
@@ -60,7 +60,7 @@ settled-number (suc zero) to = refl
 settled-number (suc (suc n)) to =
     rw (lt-ltb 1 (suc (suc n)) (omega arith), past-flags n 0 (omega arith), past-flags n 1 (omega arith))
 
--- the connectives of the code's tests and of the rules'
+-- the code's connectives are the rules'
 pub and-is : (a b : Bool) → (a && b) ≡ a and b
 unfolding _and_
 and-is true b = refl
@@ -71,7 +71,7 @@ unfolding _or_
 or-is true b = refl
 or-is false b = refl
 
--- one test for two, one inside the other
+-- one choice by two tests is two choices, one inside the other
 pub cond-and : (a b : Bool) (x : ℕ) → cond (a && b) x 0 ≡ cond a (cond b x 0) 0
 cond-and true b x = refl
 cond-and false b x = refl

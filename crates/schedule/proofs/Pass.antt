@@ -1,5 +1,5 @@
--- A pass over a small trace: with the window before instruction k and that instruction in hand, the calls of this crate may be made, they give
--- its times, its place and the window before the next, and the window after the last has the finishing time.
+-- A pass over a trace whose bound is within the limit: with the window before instruction k, and that instruction, this crate's functions may be
+-- called, and give its times, its place and the window before the next. The window after the last instruction holds the finishing time.
 use Prim.Native.Nat.{ℕ, suc, _+_, _≤_, _<_}
 use mathlib.Core.Path.{_≡_, sym, ap, subst, _∙_}
 use native.Mathlib.Numerals.{add-one}

@@ -1,5 +1,5 @@
--- Each sum on the way to an instruction's times is at most the next time, so within the limit nothing wraps; and the six steps, each from the
--- one before, give the six times.
+-- Each sum that is computed for an instruction's times is at most the next time, so within the limit nothing wraps; and the six steps, each from
+-- the one before, give the six times.
 use Prim.Native.Nat.{ℕ, _+_, _^_, _<_}
 use mathlib.Core.Path.{_≡_, _∙_, ap}
 use native.Mathlib.Omega.{arith}

@@ -19,7 +19,7 @@ module _ (to : Flag) where
   length-settle [] = refl
   length-settle (i ∷ trace) = ap suc (length-settle trace)
 
-  -- also past the end, where the instruction has no unknown flag
+  -- also past the end, where the blank instruction has no unknown flag
   pub instruction-settle : (trace : Trace) (k : ℕ) → instruction (settle to trace) k ≡ settleInstruction to (instruction trace k)
   unfolding settle settleInstruction settleFlag
   instruction-settle [] k = refl

@@ -1,4 +1,4 @@
--- What the calls of each function that the window takes give together, over plain variables: one congruence for each.
+-- For each function that computes with the window, what its calls give together: one congruence for each, over plain variables.
 use Prim.Native.Nat.{ℕ, _+_, _-_, max}
 use mathlib.Core.Bool.{Bool, cond, _&&_}
 use mathlib.Core.Path.{_≡_, _∙_, sym}
@@ -18,7 +18,7 @@ use Rattle.machine.specs.Test.{_and_, _or_}
 use Rattle.machine.proofs.Connectives.{Value, passed, failed, value}
 use Rattle.schedule.proofs.Numbers.{miss-number, settled-number, and-is, cond-and}
 
--- The code joins what is known first, so that a time that comes late waits for one sum and one choice.
+-- The code first joins what is known early, so that only one sum and one choice wait for the time that is known last.
 max-joins : (a b c : ℕ) → max a (max b c) ≡ max (max a b) c
 max-joins a b c = omega arith
 
@@ -88,7 +88,7 @@ module _ (f : Fields) where
   unfolding instructionOf entry lastCount
   last-count {store} {late} p q s = s ∙ rw (miss-number (f .access), cond-and store (misses (flagOf (f .access))) late, p, q)
 
-  -- a cycle more than the count, which on a store's miss is the latency less 1
+  -- one cycle more than the count, which for a store that misses is the latency less 1
   pub last-cycles
       : Lawful i →
       {store : Bool} {r : ℕ} →
@@ -176,7 +176,7 @@ module _ (f : Fields) where
         rw
         (branchDone, loadDone, storeDone, loadTarget, finish, count, sum-joins (e .EX) (f .execution) 1, sum-joins (e .MEM) (entry i MEM) 1, load, branch, store)
 
--- six equal times
+-- times with six equal fields are equal
 pub six-times
     : {e : Theory.Times} {IF ID EX MEM last post : ℕ} →
     IF ≡ e .IF →

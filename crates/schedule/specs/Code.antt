@@ -1,4 +1,4 @@
--- What the crate's structs stand for in the theory of the schedule, and the limit that keeps sums of 32 bits from wrapping.
+-- What the crate's structs stand for in the theory of the schedule, and the limit that keeps 32-bit sums from wrapping.
 use Prim.Native.Nat.{ℕ, _+_, _^_, _≤_, _<_}
 use mathlib.Core.Bool.{true, false}
 use mathlib.Core.List.{List}
@@ -43,12 +43,12 @@ maxTime = 537931776
 abbrev pub FinishWithin : Type 0
 FinishWithin = (body : List ℕ) → Bytes body → bodyRefusal body ≡ 0 → (to : Flag) → finish (settle to (traceOf body)) ≤ maxTime
 
--- What the times rest on of the record rules: "Kinds 0 and 3 have data bits 0", and "data latency, 1 to 65,535 for kinds 1 and 2".
+-- The record rules that the times rest on: "Kinds 0 and 3 have data bits 0", and "data latency, 1 to 65,535 for kinds 1 and 2".
 pub record Lawful (i : Instruction) : Type 0 where
   pub no-access : (Rules.isLoad (i .kind) or Rules.isStore (i .kind)) ≡ false → i .access ≡ hit
   pub some-access : Rules.isStore (i .kind) ≡ true → 1 ≤ i .dataLatency
 
--- the sums that the window after an instruction takes from its times fit
+-- the sums that sliding the window computes from an instruction's times fit 32 bits
 pub record Room (i : Instruction) (e : Theory.Times) : Type 0 where
   pub EX : e .EX + Rules.entry i Rules.EX + 1 < 2 ^ 32
   pub MEM : e .MEM + Rules.entry i Rules.MEM + 1 < 2 ^ 32

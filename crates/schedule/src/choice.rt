@@ -1,4 +1,4 @@
-// Choices between two numbers, made without a jump where the machine can.
+// Choices between two numbers, written so that they can be compiled without a branch.
 ghost use mathlib.Core.Path.{_≡_};
 ghost use mathlib.Core.Bool.{cond};
 ghost use Prim.Native.Nat.{_-_, max};
@@ -15,7 +15,7 @@ pub(crate) fn later(a: u32, b: u32) -> u32
     if a < b { b } else { a }
 }
 
-// The difference, or 0 where b is the greater.
+// The difference, or 0 if b is greater.
 pub(crate) fn less(a: u32, b: u32) -> u32
     ensures { λ r. ⌜ r ≡ a - b ⌝ }
 {

@@ -1,4 +1,4 @@
-// Settling: an unknown flag made a hit or a miss, while a record is read.
+// Settling: unknown flags become hits or misses as a record is read.
 ghost use mathlib.Core.Path.{_≡_};
 ghost use Rattle.machine.specs.Time.{settleInstruction};
 ghost use Rattle.record.specs.Rules.{flagOf, instructionOf};

@@ -34,7 +34,7 @@ use record::Fields;
 // What a pass remembers of the instructions so far.
 #[repr(C)]
 pub struct Window {
-    // When the one directly before entered ID, EX, MEM and its last stage.
+    // When the instruction directly before entered ID, EX, MEM and its last stage.
     pub ID: u32,
     pub EX: u32,
     pub MEM: u32,
@@ -76,9 +76,9 @@ pub fn no_window() -> Window
     }
 }
 
-// One function for each stage: the own way there, the stage becoming free, and what is waited for
-// before it; `from` is when it entered the stage before. That is known last, so one sum and one
-// choice are made with it and the rest before.
+// One function for each stage: the latest of the instruction's own arrival, the stage becoming
+// free, and what it waits for. `from` is when it entered the stage before. This is known last, so
+// only one sum and one choice depend on it.
 pub fn enter_if(w: Window, f: Fields) -> u32
     ensures { λ r. ⌜ r ≡ enterIF (windowOf w) (instructionOf f) ⌝ }
 {

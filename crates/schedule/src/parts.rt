@@ -1,5 +1,5 @@
-// What an instruction does, from its record's fields: its kind and flags, its entry counts, whom it
-// waits for.
+// What the rules ask of an instruction, from its record's fields: its kind and flags, what it
+// reads, its counts on entry.
 ghost use mathlib.Core.Path.{_≡_};
 ghost use Prim.Native.Nat.{_+_};
 ghost use Rattle.machine.specs.Rules.{
@@ -78,8 +78,8 @@ pub fn count_in_last(f: Fields) -> u32
     choose(is_store(f) & (f.access == 1), less(f.data_latency, 1), 0)
 }
 
-// How many cycles it has in its last stage, one more than its count: on a store's miss just its
-// latency, which is at least 1.
+// How many cycles it spends in its last stage, one more than its count there: for a store that
+// misses, its data latency, which is at least 1.
 pub fn cycles_in_last(f: Fields) -> u32
     requires { ⌜ Lawful (instructionOf f) ⌝ }
     ensures { λ r. ⌜ r ≡ lastCount (instructionOf f) + 1 ⌝ }

@@ -1,4 +1,5 @@
--- Pieces of text put one after the other are one text; how long each piece is at most; and a number's digits are those of its tenth and one more.
+-- Pieces of text put one after the other make one text; upper bounds on the lengths of pieces; and a number's digits are those of the number
+-- divided by ten, and its last digit.
 use Prim.Native.Nat.{ℕ, zero, suc, _+_, _*_, _/_, _%_, _≤_, _<_}
 use mathlib.Core.Bool.{true, false}
 use mathlib.Core.List.{List, [], _∷_, _++_, append-nil}
@@ -45,16 +46,16 @@ wrote-then at a b before {between} (e, f, g) (e₂, f₂, g₂) =
       omega arith,
     )
 
--- the same text, written otherwise
+-- what was written, given as an equal text
 pub as-text : (at : ℕ) (before : List ℕ) {end : ℕ} {a b afterwards : List ℕ} → a ≡ b → Wrote at a before afterwards end → Wrote at b before afterwards end
 as-text at before {end} {a} {b} {afterwards} e = subst (λ (text : List ℕ). Wrote at text before afterwards end) e
 
--- what k digits hold
+-- ten to the power k: the numbers below it have at most k digits
 unfoldable pub tens : ℕ → ℕ
 tens zero = 1
 tens (suc k) = 10 * tens k
 
--- more digits than suffice are not written
+-- allowing more digits than suffice does not change the text
 Enough : ℕ → Type 0
 Enough k = (n : ℕ) → n < tens (suc k) → decimalWithin (suc (suc k)) n ≡ decimalWithin (suc k) n
 
@@ -86,7 +87,7 @@ decimal-more n h l =
 pub decimal-grows : (n : ℕ) → n < 4294967296 → 10 ≤ n → length (decimal n) ≡ length (decimal (n / 10)) + 1
 decimal-grows n h l = ap (λ (t : List ℕ). length t) (decimal-more n h l) ∙ length-append (decimal (n / 10)) ((48 + n % 10) ∷ [])
 
--- a number that k digits hold has no more, however many may be written
+-- a number that fits k digits is written with at most k, however many are allowed
 few-digits : (k m n : ℕ) → n < tens (suc k) → Value (ltb n 10) → length (decimalWithin m n) ≤ suc k
 unfolding decimalWithin tens
 few-digits k zero n h v = omega arith

@@ -1,4 +1,4 @@
--- Writing pieces one after the other: what stands before a place is kept, and what stands past the piece is as it was.
+-- Writing pieces one after the other: what is before the position is kept, and what is after the piece is as it was.
 use Prim.Native.Nat.{ℕ, _+_, _-_, _≤_}
 use mathlib.Core.List.{List, [], _++_, append-assoc, append-nil}
 use mathlib.Core.Path.{_≡_, refl, sym, ap, ap₂, subst, _∙_}
@@ -8,7 +8,7 @@ use borrow.Rule.Slice.PartMut.{putMid}
 use lib.ListN.{length, take, drop, length-append, length-drop, drop-of-length-le}
 use lib.Seq.{take-at, take-all, take-length, drop-append-add, drop-drop, length-take-le}
 
--- q written at n, where p is already there
+-- q written right after p
 pub put-next
     : (p q o : List ℕ) (n : ℕ) → length p ≡ n →
     take n (p ++ drop n o) ++ q ++ drop (n + length q) (p ++ drop n o) ≡ p ++ q ++ drop (n + length q) o

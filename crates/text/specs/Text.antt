@@ -1,4 +1,4 @@
--- Text as bytes, in ASCII, and what a lent output holds once a text is put into it.
+-- Text as ASCII bytes, and what a lent output holds after a text has been put into it.
 use Prim.Native.Nat.{ℕ, zero, suc, _+_, _-_, _/_, _%_, _≤_}
 use mathlib.Core.Bool.{cond}
 use mathlib.Core.Path.{_≡_}
@@ -12,15 +12,15 @@ space = 32
 abbrev pub newline : ℕ
 newline = 10
 
--- the text at a place of the output, the bytes before and past it as they were
+-- the output with the text at a position; the bytes before and after it keep their values
 unfoldable pub put : ℕ → List ℕ → List ℕ → List ℕ
 put at text out = take at out ++ text ++ drop (at + length text) out
 
--- a function has put the text at the place, within the output, and answers where the text ends
+-- a function has put the text at the position, within the output, and gives the position at which the text ends
 abbrev pub Wrote : ℕ → List ℕ → List ℕ → List ℕ → ℕ → Type 0
 Wrote at text before afterwards end = (end ≡ at + length text) × (afterwards ≡ put at text before) × (end ≤ length before)
 
--- a number in decimal digits, of which k suffice
+-- a number in decimal, if k digits suffice
 unfoldable pub decimalWithin : ℕ → ℕ → List ℕ
 decimalWithin zero n = []
 decimalWithin (suc k) n = cond (ltb n 10) ((48 + n) ∷ []) (decimalWithin k (n / 10) ++ ((48 + n % 10) ∷ []))
@@ -33,6 +33,6 @@ unfoldable pub spaces : ℕ → List ℕ
 spaces zero = []
 spaces (suc n) = spaces n ++ (space ∷ [])
 
--- the text at the right end of a column, which a text that is wider exceeds
+-- the text right-aligned in a column of this width; a wider text is longer than the column
 unfoldable pub right : ℕ → List ℕ → List ℕ
 right width text = spaces (width - length text) ++ text

@@ -1,4 +1,4 @@
-// Numbers at the right end of a column.
+// Numbers right-aligned in a column.
 ghost use mathlib.Core.Path.{_≡_};
 ghost use Prim.Native.Nat.{_+_, _-_, _≤_};
 ghost use lib.ListN.{length};
@@ -16,7 +16,7 @@ pub fn digits(n: u32) -> usize
     digits(n / 10) + 1
 }
 
-// The spaces that bring a text of some length to the right end of a column.
+// The spaces before a text of length `taken` that is right-aligned in a column.
 pub fn put_padding(out: &mut [u8], at: usize, taken: usize, width: usize) -> usize
     requires { ⌜ at + (width - taken) ≤ length (now out) ⌝ }
     ensures { λ r. ⌜ Wrote at (spaces (width - taken)) (now (out .entry)) (now (out .exit)) r ⌝ }

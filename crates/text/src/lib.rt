@@ -1,5 +1,5 @@
-// Text for a lent output: bytes, texts and decimal numbers, and numbers at the right end of a column.
-// Building blocks of other crates' texts: each asks that there is room for its piece.
+// Text for a lent output: bytes, texts, decimal numbers, and numbers right-aligned in a column.
+// Inner functions for other crates: each requires room for its piece.
 pub mod aligned;
 pub mod put;
 

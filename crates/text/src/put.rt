@@ -1,4 +1,4 @@
-// Text put into a lent output piece after piece; each function answers where the next piece goes.
+// Text put into a lent output piece by piece; each function gives the position for the next piece.
 ghost use mathlib.Core.Path.{_≡_};
 ghost use mathlib.Core.List.{_∷_, []};
 ghost use Prim.Native.Nat.{_+_, _<_, _≤_};

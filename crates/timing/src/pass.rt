@@ -15,7 +15,7 @@ pub(crate) const HIT: u32 = 0;
 
 pub(crate) const MISS: u32 = 1;
 
-// The finishing time with unknown flags made the flag `to`.
+// The finishing time where every unknown flag becomes the flag `to`.
 pub(crate) fn finish_settled(body: &[u8], to: u32) -> u32
     requires { ⌜ bodyRefusal (now body) ≡ 0 ⌝ }
     ensures { λ r. ⌜ r ≡ finish (settle (flagOf to) (traceOf (now (body .entry)))) ⌝ }

@@ -1,4 +1,4 @@
--- The bytes of a written file: the header, each entry, and the records, where document 01 has them.
+-- The bytes of a written file: the header, each entry, and the records, where document 01 puts them.
 use Prim.Native.Nat.{ℕ, zero, suc, _+_, _*_, _/_, _%_, _<_, _≤_}
 use mathlib.Core.List.{List, [], _∷_, _++_}
 use mathlib.Core.Logic.{⊎-elim}

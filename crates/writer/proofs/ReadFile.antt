@@ -28,7 +28,7 @@ use Rattle.job.proofs.Accepted.{FileFine, file-fine}
 use Rattle.writer.proofs.WriteAnswer.{length-file}
 use Rattle.writer.proofs.FileBytes.{byte-entry, byte-record}
 
--- the four bytes of a number that four bytes make
+-- the four bytes of the number that four bytes stand for are those four
 word-bytes
     : (a b c d : ℕ) → a < 256 → b < 256 → c < 256 → d < 256 →
     wordBytes (a + 256 * b + 65536 * c + 16777216 * d) ≡ a ∷ b ∷ c ∷ d ∷ []

@@ -1,4 +1,4 @@
--- What counts and records that Write accepts have, and what its answer and output are in each case.
+-- What is known of counts and records that Write accepts, and its answer and output in each case.
 use Prim.Native.Nat.{ℕ, zero, suc, _+_, _*_, _<_, _≤_}
 use mathlib.Core.Bool.{Bool, true, false}
 use mathlib.Core.List.{List, [], _++_, append-assoc}

@@ -1,4 +1,4 @@
--- A file that Write makes is accepted, and each of its bodies is the trace's records.
+-- A file that Write makes is accepted, and each of its bodies is the records of that trace.
 use Prim.Native.Nat.{ℕ, zero, suc, _+_, _*_, _<_, _≤_}
 use mathlib.Core.Bool.{true}
 use mathlib.Core.List.{List}
@@ -25,7 +25,7 @@ use Rattle.writer.proofs.WriteAnswer.{WriteFine, write-fine, last-end, 
 use Rattle.writer.proofs.FileBytes.{file-traces, file-count, file-offset, file-records}
 
 module _ (counts records : List ℕ) (room : ℕ) (fine : WriteFine counts records room) where
-  -- where the file's bodies start is where the counts say
+  -- as many instructions come before trace t in the file as the counts say
   file-before : (t : ℕ) → t ≤ length counts → before (countAt (fileOf counts records)) t ≡ before (count counts) t
   file-before t l = before-same _ _ t (λ k lk. file-count counts records k (omega arith))
 

@@ -1,4 +1,4 @@
--- `chart::main` is safe: the chart lies in its buffer.
+-- `chart::main` is safe: the chart fits its buffer.
 use Rattle.drawing.proofs.Drawn.{chart-inside}
 use borrow.Author.Needs.{needs}
 use Rattle.chart.proofs.main.Statement.{statement}

@@ -1,4 +1,4 @@
--- `charts::agrees` is safe: the chart lies in its buffer.
+-- `charts::agrees` is safe: the chart fits its buffer.
 use Rattle.drawing.proofs.Drawn.{chart-inside}
 use borrow.Author.Needs.{needs}
 use Rattle.charts.proofs.agrees.Statement.{statement}

@@ -1,3 +1,4 @@
+-- `byte` meets its contract: a byte past the end reads as 0, here and in the definition.
 use native.Mathlib.Omega.{arith}
 use lib.ListN.{List·getD-eq-default}
 use Prim.Native.Nat.{ℕ}

@@ -1,3 +1,4 @@
+-- `half_at` meets its contract, by arithmetic on its two bytes.
 use borrow.Author.Needs.{needs}
 use native.Mathlib.Omega.{arith}
 use Rattle.little_endian.proofs.half_at.Statement.{statement}

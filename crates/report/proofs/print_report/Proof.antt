@@ -1,4 +1,4 @@
--- `report::print_report` is safe: the report lies in its buffer.
+-- `report::print_report` is safe: the report fits its buffer.
 use Rattle.reporting.proofs.Given.{report-inside}
 use borrow.Author.Needs.{needs}
 use Rattle.report.proofs.print_report.Statement.{statement}

@@ -22,7 +22,7 @@ use Rattle.drawing.proofs.rows.put_rows.Reads as put-rows-reads
 use Rattle.text.proofs.put_text.Reads as put-text-reads
 use Rattle.timing.proofs.best_worst.Reads as best-worst-reads
 
--- an accepted body has its times
+-- for an accepted body, Best and worst answers with the definition's times
 times-given : (body : List ℕ) → bodyRefusal body ≡ 0 → bestWorstAnswer body ≡ record { refusal = 0; best = best (traceOf body); worst = worst (traceOf body) }
 unfolding bestWorstAnswer
 times-given body e = rw e

@@ -1,3 +1,4 @@
+-- `entries_of` meets its contract. The loop's invariant: no entry so far is refused, and `end` is where the next body starts.
 use Rattle.job.proofs.Entries.{entry-large, entry-offset, entry-fine, start-zero, start-more, entries-stop, entries-pass}
 use Rattle.job.proofs.First.{first-zero, first-more, first-stop}
 use Rattle.job.specs.Open.{entryRefusal, entriesRefusal}

@@ -1,3 +1,4 @@
+-- `file_refusal` meets its contract: the refusals in their order, with one check of the records of all traces.
 use Rattle.job.specs.Layout.{traces, startAt, entryAt}
 use lib.ListN.{length, drop}
 use mathlib.Core.List.{List}

@@ -1,3 +1,4 @@
+-- `locate` meets its contract: a file that is refused, a trace number that is too large, or a body that is there.
 use Rattle.job.proofs.Accepted.{file-fine, body-fits, locate-refused, locate-found, open-out, open-declined}
 use Rattle.job.specs.Layout.{traces, countAt, startAt}
 use native.Mathlib.Omega.{arith}

@@ -1,3 +1,4 @@
+-- `table_refusal` meets its contract: 1 to 4, in their order.
 use Rattle.job.specs.Open.{tableRefusal}
 use Rattle.record.specs.Refusal.{_then_, _unless_}
 use borrow.Author.Tests.{le-leb, lt-leb}

@@ -1,4 +1,4 @@
--- `pipeline::hazards::reads` meets its contract: the two sources, and register 0 apart.
+-- `pipeline::hazards::reads` meets its contract: one of the two sources, and not register 0.
 use mathlib.Core.Path.{refl}
 use Rattle.machine.specs.Rules.{reads}
 use Rattle.record.specs.Rules.{instructionOf}

@@ -12,7 +12,7 @@ use Rattle.pipeline.proofs.Joined.{both-of, cond-under}
 use Rattle.pipeline.proofs.orderly.all_counted.Statement.{statement}
 use Rattle.pipeline.proofs.orderly.all_counted.Tie as tie
 
--- an empty slot's entry count is not asked for
+-- for an empty slot the entry count does not matter
 count-under : (held : Slot) {m n : ℕ} → (held .filled ≡ true → m ≡ n) → countOf held m ≡ countOf held n
 count-under held h = cond-under (held .filled) _ λ t. ap (leb (held .count)) (h t)
 

@@ -1,4 +1,4 @@
--- `pipeline::orderly::stores_apart` meets its contract: the kinds' numbers tell stores.
+-- `pipeline::orderly::stores_apart` meets its contract: a store is recognised by its kind's number.
 use Prim.Native.Nat.{ℕ, _+_}
 use mathlib.Core.Path.{refl, sym, ap, _∙_}
 use mathlib.Core.Bool.{not}

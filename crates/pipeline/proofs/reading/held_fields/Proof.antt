@@ -1,4 +1,4 @@
--- `pipeline::reading::held_fields` meets its contract: it is asked of a filled slot alone.
+-- `pipeline::reading::held_fields` meets its contract, which speaks of a filled slot only.
 use Rattle.machine.proofs.Connectives.{clash}
 use Rattle.pipeline.proofs.reading.held_fields.Statement.{statement}
 use Rattle.pipeline.proofs.reading.held_fields.Tie as tie

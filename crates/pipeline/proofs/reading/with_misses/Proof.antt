@@ -1,4 +1,4 @@
--- `pipeline::reading::with_misses` meets its contract: each field settled is the settled trace's instruction there.
+-- `pipeline::reading::with_misses` meets its contract: settling an instruction's fields gives the settled trace's instruction.
 use Prim.Native.Nat.{ℕ}
 use mathlib.Core.Path.{_≡_, ap, sym, _∙_}
 use Rattle.machine.specs.Instruction.{Trace, Instruction, miss, instruction}

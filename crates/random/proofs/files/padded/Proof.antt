@@ -1,4 +1,4 @@
--- `random::files::padded` is safe and ends. Assumes nothing.
+-- `random::files::padded` is safe and ends, for all arguments.
 use Prim.Native.Nat.{_≤_, _-_}
 use native.Mathlib.Omega.{arith}
 use Rattle.random.proofs.files.padded.Statement.{statement}

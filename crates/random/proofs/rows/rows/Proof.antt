@@ -1,4 +1,4 @@
--- `random::rows::rows` is safe and ends. Assumes nothing.
+-- `random::rows::rows` is safe and ends, for all arguments.
 use Prim.Native.Nat.{_≤_, _-_}
 use native.Mathlib.Omega.{arith}
 use Rattle.random.proofs.rows.rows.Statement.{statement}

@@ -1,4 +1,4 @@
--- `random::times::difference` is safe: the difference of two numbers of 32 bits fits 64 signed bits. Assumes nothing.
+-- `random::times::difference` is safe: the difference of two numbers of 32 bits fits 64 signed bits.
 use Rattle.timing.proofs.Difference.{difference-fits}
 use native.Mathlib.Omega.{arith}
 use Rattle.random.proofs.times.difference.Statement.{statement}

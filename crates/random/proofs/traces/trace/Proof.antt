@@ -1,4 +1,4 @@
--- `random::traces::trace` is safe and ends. Assumes nothing.
+-- `random::traces::trace` is safe and ends, for all arguments.
 use Prim.Native.Nat.{_≤_, _-_}
 use native.Mathlib.Omega.{arith}
 use Rattle.random.proofs.traces.trace.Statement.{statement}

@@ -1,3 +1,4 @@
+-- `body_refusal` meets its contract: 10, then 8, in their order.
 use Rattle.record.proofs.Refusals.{stop, go-on}
 use Rattle.record.specs.Body.{bodyRefusal}
 use borrow.Author.Needs.{needs}

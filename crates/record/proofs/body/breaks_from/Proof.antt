@@ -1,3 +1,4 @@
+-- `breaks_from` meets its contract: the fields and the flags byte are those at the position.
 use mathlib.Core.Path.{refl, _∙_}
 use Rattle.record.specs.Layout.{fieldsFrom}
 use borrow.Author.Needs.{needs}

@@ -1,3 +1,4 @@
+-- `breaks_rules` meets its contract: the limits that depend on the kind are the rules.
 use Rattle.record.proofs.Limits.{limits}
 use borrow.Author.Needs.{needs}
 use Rattle.record.proofs.body.breaks_rules.Statement.{statement}

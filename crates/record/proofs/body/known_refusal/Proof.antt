@@ -1,4 +1,4 @@
--- `known_refusal` meets its contract. The loop's invariant: no record so far breaks its rules, and whether one has an unknown flag is known.
+-- `known_refusal` meets its contract. The loop's invariant: no record so far breaks its rules, and `unknown` says whether one has an unknown flag.
 use Prim.Native.Nat.{_≤_, _-_}
 use mathlib.Core.Bool.{true, not}
 use mathlib.Core.Path.{_≡_, sym, ap, refl, _∙_}

@@ -1,3 +1,4 @@
+-- `length_refusal` meets its contract: one case for each way out.
 use Rattle.record.specs.Body.{records, lengthRefusal}
 use Rattle.record.specs.Layout.{recordSize}
 use Rattle.record.specs.Refusal.{_unless_, wrongLength}
@@ -12,7 +13,7 @@ use Rattle.record.proofs.body.length_refusal.Tie as tie
 use Rattle.record.proofs.body.length_refusal.Reads as reads
 use Rattle.record.proofs.body.length_refusal.Lts as lts
 
--- the answer from what the tests mean, not from how they are written
+-- the answer from what the tests mean, so that the proof does not depend on how the code writes them
 module _ (body : List ℕ) where
   broken : (length body % recordSize ≡ 0 → ⊥) → wrongLength ≡ lengthRefusal body
   unfolding lengthRefusal _unless_

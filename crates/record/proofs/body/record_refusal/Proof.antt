@@ -1,4 +1,4 @@
--- `record_refusal` meets its contract: of "8, then 11" it is 8 just where a record breaks its rules.
+-- `record_refusal` meets its contract: 8, then 11 gives 8 exactly where a record breaks its rules.
 use Prim.Native.Nat.{ℕ}
 use mathlib.Core.Bool.{Bool, true, false}
 use mathlib.Core.Path.{_≡_, refl}

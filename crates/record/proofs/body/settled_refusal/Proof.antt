@@ -1,4 +1,4 @@
--- `settled_refusal` meets its contract: 10, and then "8, then 11" as one.
+-- `settled_refusal` meets its contract: 10, then what one pass gives for 8 and 11.
 use mathlib.Core.Path.{_∙_}
 use native.Mathlib.Omega.{arith}
 use borrow.Author.Needs.{needs}

@@ -1,3 +1,4 @@
+-- `fields_at` meets its contract: a record that is there, and one that is not.
 use Rattle.record.specs.Body.{readAnswer}
 use borrow.Author.Tests.{lt-ltb, le-ltb}
 use borrow.Author.Needs.{needs}

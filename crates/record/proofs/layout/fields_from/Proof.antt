@@ -1,3 +1,4 @@
+-- `fields_from` meets its contract, field by field.
 use Rattle.record.specs.Layout.{
   flagsAt,
   kindAt,
@@ -22,7 +23,7 @@ use Rattle.record.proofs.layout.fields_from.Lts as lts
 use Rattle.little_endian.proofs.byte_at.Reads as byte-at-reads
 use Rattle.little_endian.proofs.half_at.Reads as half-at-reads
 
--- field by field, so that a wrong field is refused by its own line
+-- one equation for each field, so that a wrong field is refused at its own line
 same
     : (bytes : List ℕ) (at : ℕ) (f : Fields) →
     f .kind ≡ byte bytes (at + kindAt) →

@@ -1,4 +1,4 @@
--- `reporting::figures::line_of` meets its contract: an accepted body has its times.
+-- `reporting::figures::line_of` meets its contract: for an accepted body, Best and worst answers with the definition's times.
 use mathlib.Core.Path.{refl, sym, ap, _∙_}
 use native.Mathlib.Omega.{arith}
 use Rattle.machine.specs.Time.{best, worst}

@@ -1,4 +1,4 @@
--- `reporting::whole::report` meets its contract, by what its refusal, the deadlines' number and the room decide.
+-- `reporting::whole::report` meets its contract, by cases of the refusal, the number of deadlines and the room.
 use Rattle.job.specs.Open.{fileRefusal}
 use mathlib.Core.Path.{_≡_, sym, _∙_}
 use native.Mathlib.Omega.{arith}

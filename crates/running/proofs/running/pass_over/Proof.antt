@@ -1,4 +1,4 @@
--- `pass_over` meets its contract: the window and what the record says allow the calls, and what they give carries the pass on.
+-- `pass_over` meets its contract: the window and the record allow the calls, and what they give leads to the next instruction.
 use borrow.Author.Needs.{needs}
 use Rattle.running.proofs.RunPass.{may-time, may-seat, may-slide, passes}
 use Rattle.running.proofs.running.pass_over.Statement.{statement}

@@ -1,4 +1,4 @@
--- `is_load` meets its contract: a kind is told by its number.
+-- `is_load` meets its contract: a kind is recognised by its number.
 use Rattle.record.specs.Rules.{instructionOf}
 use Rattle.schedule.proofs.Numbers.{load-number}
 use Rattle.schedule.proofs.parts.is_load.Statement.{statement}

@@ -1,4 +1,4 @@
--- `is_store` meets its contract: a kind is told by its number.
+-- `is_store` meets its contract: a kind is recognised by its number.
 use Rattle.record.specs.Rules.{instructionOf}
 use Rattle.schedule.proofs.Numbers.{store-number}
 use Rattle.schedule.proofs.parts.is_store.Statement.{statement}

@@ -1,4 +1,4 @@
--- `text::aligned::digits` meets its contract: a number has one digit more than its tenth.
+-- `text::aligned::digits` meets its contract: a number of at least 10 has one digit more than the number divided by ten.
 use mathlib.Core.List.{List}
 use mathlib.Core.Path.{sym, ap}
 use native.Mathlib.Omega.{arith}

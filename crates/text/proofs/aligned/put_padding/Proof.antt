@@ -1,4 +1,4 @@
--- `text::aligned::put_padding` meets its contract: at the loop's head as many spaces are put as the column has been filled by.
+-- `text::aligned::put_padding` meets its contract. The loop's invariant: the spaces put so far are one for each turn of the loop.
 use Prim.Native.Nat.{suc, _+_, _-_, _≤_}
 use mathlib.Core.Path.{_≡_, refl, ap, _∙_}
 use Rattle.text.specs.Text.{Wrote, spaces}

@@ -1,4 +1,4 @@
--- `text::put::put_decimal` meets its contract: a number's digits are those of its tenth, then its last.
+-- `text::put::put_decimal` meets its contract: a number's digits are those of the number divided by ten, then its last.
 use mathlib.Core.List.{List, _∷_, [], _++_}
 use mathlib.Core.Path.{_≡_, sym, ap, subst, _∙_}
 use native.Mathlib.Omega.{arith}

@@ -1,4 +1,4 @@
--- `margin` meets its contract: the worst time of one pass, and the difference as it stands in its 64 bits.
+-- `margin` meets its contract: the worst time from one pass, and a difference that fits 64 signed bits.
 use mir.Syntax.{w64}
 use mir.ValLaws.{toZ-ofZ}
 use mathlib.Core.Path.{sym, _∙_}

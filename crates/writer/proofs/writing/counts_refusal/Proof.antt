@@ -1,3 +1,4 @@
+-- `counts_refusal` meets its contract. The loop's invariant: no count so far is above 4,096.
 use Rattle.writer.specs.Write.{count, countsRefusal}
 use Rattle.job.specs.Layout.{maxCount}
 use Rattle.record.proofs.Scan.{none-zero, none-more, scan-refused, scan-passed}

@@ -1,3 +1,4 @@
+-- `put_entries` meets its contract. The loop's invariant: the first t entries are written, and `offset` is where body t starts.
 use Rattle.writer.proofs.WrittenTable.{entries-none, entries-more}
 use Rattle.job.proofs.Starts.{start-le}
 use Rattle.job.proofs.Entries.{start-zero, start-more}

@@ -1,3 +1,4 @@
+-- `put_entry` meets its contract: the offset's four bytes and the count's two make one piece.
 use Rattle.text.proofs.Placed.{put-both}
 use Rattle.writer.specs.Write.{wordBytes}
 use Rattle.record.specs.Body.{halfBytes}

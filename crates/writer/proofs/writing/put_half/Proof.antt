@@ -1,3 +1,4 @@
+-- `put_half` meets its contract: two bytes are set, the low one first.
 use lib.Seq.{sets-eq}
 use lib.ListN.{length-set}
 use native.Mathlib.Omega.{arith}

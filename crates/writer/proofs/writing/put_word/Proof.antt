@@ -1,3 +1,4 @@
+-- `put_word` meets its contract: four bytes are set, the low one first.
 use lib.Seq.{sets-eq}
 use lib.ListN.{length-set}
 use native.Mathlib.Omega.{arith}

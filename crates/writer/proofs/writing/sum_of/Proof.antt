@@ -1,3 +1,4 @@
+-- `sum_of` meets its contract. The loop's invariant: the total is the sum of the first t counts, each at most 65,535.
 use Rattle.job.proofs.Starts.{before-zero, before-more}
 use Rattle.writer.specs.Write.{count}
 use Rattle.job.specs.Layout.{before}

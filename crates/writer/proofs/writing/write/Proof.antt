@@ -1,3 +1,4 @@
+-- `write` meets its contract: a refusal, or header, table and records written one after the other.
 use Rattle.writer.proofs.WriteAnswer.{WriteFine, write-fine, last-end, write-refused, write-done}
 use Rattle.writer.specs.Write.{count, fileLength}
 use Rattle.job.specs.Layout.{maxFile, entryAt, bodyStart}

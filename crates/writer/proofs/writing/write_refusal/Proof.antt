@@ -1,3 +1,4 @@
+-- `write_refusal` meets its contract: 3, 5, 13, 1, 8, 14, in that order.
 use Rattle.writer.specs.Write.{fileLength, writeRefusal}
 use Rattle.record.proofs.Refusals.{stop, go-on, fails, passes, last-fails, last-passes}
 use borrow.Author.Tests.{le-leb, lt-leb, eq-eqb, ne-eqb}
