@@ -1,3 +1,4 @@
+pub mod Cases
 pub mod Answered
 pub mod Claim
 pub mod Difference
