@@ -1,10 +1,11 @@
 -- Demand 2: "A written job file reads back as the same traces, and an accepted file is what the writer makes of its traces."
 use Prim.Native.Nat.{ℕ, _*_, _<_}
-use mathlib.Core.List.{List}
+use mathlib.Core.List.{List, [], _∷_, _++_, map}
 use mathlib.Core.Path.{_≡_}
 use lib.ListN.{length, take, drop}
+use Rattle.machine.specs.Instruction.{Trace}
 use Rattle.record.specs.Layout.{recordSize}
-use Rattle.record.specs.Body.{Bytes, firsts}
+use Rattle.record.specs.Body.{Bytes, records, firsts, traceOf, bodyOf}
 use Rattle.job.specs.Layout.{traces, countAt, before, recordsOf}
 use Rattle.job.specs.Open.{fileRefusal, openBody}
 use Rattle.writer.specs.Write.{count, fileOf, writeRefusal}
@@ -31,3 +32,34 @@ pub record RoundTrip : Type 0 where
       Bytes file →
       fileRefusal file ≡ 0 →
       (fileOf (countsOf file) (recordsOf file) ≡ file) × (writeRefusal (countsOf file) (recordsOf file) (length file) ≡ 0)
+
+-- the bodies that Open hands back, in entry order, and the traces that they stand for
+abbrev pub bodiesOf : List ℕ → List (List ℕ)
+bodiesOf file = firsts (openBody file) (traces file)
+
+abbrev pub tracesOf : List ℕ → List Trace
+tracesOf file = map traceOf (bodiesOf file)
+
+-- the counts and the joined records that Write takes for bodies
+abbrev pub countsIn : List (List ℕ) → List ℕ
+countsIn bodies = map (λ body. records body) bodies
+
+unfoldable pub joined : List (List ℕ) → List ℕ
+joined [] = []
+joined (body ∷ bodies) = body ++ joined bodies
+
+-- The same over traces: what Write makes of some, and what Open hands back.
+pub record TracesRoundTrip : Type 0 where
+  -- "A written job file reads back as the same traces"
+  pub written :
+      (list : List Trace) (room : ℕ) →
+      writeRefusal (countsIn (map bodyOf list)) (joined (map bodyOf list)) room ≡ 0 →
+      tracesOf (fileOf (countsIn (map bodyOf list)) (joined (map bodyOf list))) ≡ list
+  -- "an accepted file is what the writer makes of its traces": of the bodies that Open hands back, which are those of its traces
+  pub read :
+      (file : List ℕ) →
+      Bytes file →
+      fileRefusal file ≡ 0 →
+      (fileOf (countsIn (bodiesOf file)) (joined (bodiesOf file)) ≡ file)
+      × (writeRefusal (countsIn (bodiesOf file)) (joined (bodiesOf file)) (length file) ≡ 0)
+      × (map bodyOf (tracesOf file) ≡ bodiesOf file)
