@@ -1,4 +1,4 @@
-pub mod Cases
 pub mod Answered
+pub mod Cases
 pub mod Claim
 pub mod Difference

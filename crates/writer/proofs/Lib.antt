@@ -5,3 +5,4 @@ pub mod WrittenFile
 pub mod ReadFile
 pub mod RoundTrip
 pub mod Traces
+pub mod Cases
