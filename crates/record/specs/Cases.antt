@@ -4,7 +4,7 @@ use mathlib.Core.Bool.{Bool, true, false, not, cond}
 use mathlib.Core.List.{List, [], _∷_}
 use lib.Dec.{eqb}
 use Rattle.machine.specs.Test.{_and_}
-use Rattle.machine.specs.Instruction.{Flag, hit, miss, unknown, Instruction, Trace}
+use Rattle.machine.specs.Instruction.{Flag, hit, miss, unknown, Trace}
 use Rattle.machine.specs.Cases.{Case}
 use Rattle.record.specs.Refusal.{unknownFlag}
 use Rattle.record.specs.Body.{bodyOf, bodyRefusal, settledRefusal}
@@ -24,11 +24,11 @@ unfolding isUnknown
 known [] = true
 known (i ∷ trace) = not (isUnknown (i .fetch)) and not (isUnknown (i .access)) and known trace
 
--- what a call that takes no unknown flag declines a lawful trace with: 11 where a flag is unknown, and nothing else
+-- the refusal of a lawful trace where unknown flags are refused: 11 if it has one
 unfoldable pub refusalOf : Trace → ℕ
 refusalOf trace = cond (known trace) 0 unknownFlag
 
--- neither 10 nor 8 declines the body of any of the cases, and 11 just those with an unknown flag
+-- neither 10 nor 8 refuses the body of a case, and 11 only one with an unknown flag
 unfoldable pub casesAccepted : List Case → Bool
 casesAccepted [] = true
 casesAccepted (c ∷ cs) =

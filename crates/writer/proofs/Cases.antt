@@ -23,5 +23,5 @@ files-accepted =
       taken = refl;
       written = refl;
       allTaken = refl;
-      allRead = traces-round-trip .written traceList maxFile refl;
+      allRead = traces-round-trip .written traceList maxFile refl .1;
     }

@@ -1,28 +1,28 @@
 -- The round trip over traces: the bodies that Open hands back, joined, are the file's records, and bodies that are written joined are handed back
 -- one by one.
-use Prim.Native.Nat.{ℕ, zero, suc, _+_, _*_, _-_, _/_, _<_, _≤_}
+use Prim.Native.Nat.{ℕ, zero, suc, _+_, _*_, _<_, _≤_}
 use mathlib.Core.List.{List, [], _∷_, _++_, map, append-assoc, append-nil}
-use mathlib.Core.Path.{_≡_, refl, sym, ap, ap₂, subst, _∙_}
+use mathlib.Core.Path.{_≡_, refl, sym, ap, ap₂, _∙_}
 use borrow.Author.Tests.{eq-eqb}
 use native.Mathlib.Decide.{decLt}
 use native.Mathlib.Nat.{le-refl, le-of-suc-le-suc, not-suc-le-zero}
 use native.Mathlib.Omega.{arith}
-use lib.ListN.{length, getD, take, drop, length-take, length-drop, length-map, List·getD-eq-default}
+use lib.ListN.{length, getD, take, drop, length-drop, length-map, List·getD-eq-default}
 use lib.Seq.{getD-take, getD-drop, take-all, take-at, take-add, drop-drop, drop-append-add, ext-getD}
 use Rattle.machine.specs.Instruction.{Trace}
 use Rattle.little_endian.specs.Numbers.{byte}
 use Rattle.record.specs.Layout.{recordSize}
-use Rattle.record.specs.Body.{Bytes, records, firsts, traceOf, bodyOf, bodyRefusal}
+use Rattle.record.specs.Body.{Bytes, records, firsts, traceOf, bodyOf}
 use Rattle.record.proofs.Encoding.{length-firsts, getD-firsts, length-bodyOf}
 use Rattle.record.proofs.RoundTrip.{accepted-is-encoded, trace-again}
 use Rattle.job.specs.Layout.{traces, countAt, entryAt, before, startAt, bodyAt, recordsOf}
-use Rattle.job.specs.Open.{fileRefusal, openRefusal, openBody}
+use Rattle.job.specs.Open.{fileRefusal, openBody}
 use Rattle.job.proofs.Accepted.{FileFine, file-fine, open-accepted}
 use Rattle.job.proofs.Joined.{body-length}
 use Rattle.job.proofs.Part.{opened-accepted}
 use Rattle.job.proofs.Starts.{start-before}
 use Rattle.writer.specs.Write.{count, fileOf, writeRefusal}
-use Rattle.writer.specs.RoundTrip.{countsOf, recordsAt, bodiesOf, tracesOf, countsIn, joined, TracesRoundTrip}
+use Rattle.writer.specs.RoundTrip.{countsOf, recordsAt, bodiesOf, tracesOf, countsIn, joined, fileOfBodies, bodiesRefusal, TracesRoundTrip}
 use Rattle.writer.proofs.RoundTrip.{round-trip}
 
 -- lists that are made one element after the other
@@ -99,12 +99,13 @@ module _ (file : List ℕ) (accepted : fileRefusal file ≡ 0) where
       let e = fine .ends in
       omega arith)
 
-  pub encoded-opened : Bytes file → map bodyOf (tracesOf file) ≡ bodiesOf file
+  pub encoded-opened : Bytes file → bodiesOf file ≡ map bodyOf (tracesOf file)
   encoded-opened bytes =
-      ap (map bodyOf) (map-firsts traceOf (openBody file) (traces file))
+      sym
+      (ap (map bodyOf) (map-firsts traceOf (openBody file) (traces file))
       ∙ map-firsts bodyOf (λ t. traceOf (openBody file t)) (traces file)
       ∙ firsts-same _ _ (traces file) λ t l.
-      accepted-is-encoded (openBody file t) (opened-bytes bytes t l) (opened-accepted file t (open-accepted file t accepted l))
+      accepted-is-encoded (openBody file t) (opened-bytes bytes t l) (opened-accepted file t (open-accepted file t accepted l)))
 
 -- body t among joined ones
 before-cons : (c : ℕ) (counts : List ℕ) (t : ℕ) → before (count (c ∷ counts)) (suc t) ≡ c + before (count counts) t
@@ -128,9 +129,9 @@ piece (body ∷ bodies) whole (suc t) l =
     place = let b = before-cons (records body) (countsIn bodies) t in let w = whole zero (omega arith) in omega arith
 
 -- bodies that are written are handed back
-module _ (bodies : List (List ℕ)) (whole : Whole bodies) (room : ℕ) (accepted : writeRefusal (countsIn bodies) (joined bodies) room ≡ 0) where
+module _ (bodies : List (List ℕ)) (whole : Whole bodies) (room : ℕ) (accepted : bodiesRefusal bodies room ≡ 0) where
   abbrev file : List ℕ
-  file = fileOf (countsIn bodies) (joined bodies)
+  file = fileOfBodies bodies
 
   file-traces : traces file ≡ length bodies
   file-traces = round-trip .written (countsIn bodies) (joined bodies) room accepted .1 ∙ length-map bodies (λ body. records body)
@@ -159,7 +160,10 @@ traces-again (trace ∷ list) = ap₂ (λ (first : Trace) (rest : List Trace). f
 pub traces-round-trip : TracesRoundTrip
 traces-round-trip =
     record {
-      written = λ list room e. ap (map traceOf) (bodies-again (map bodyOf list) (encoded-whole list) room e) ∙ traces-again list;
+      written = λ list room e. (
+        round-trip .written (countsIn (map bodyOf list)) (joined (map bodyOf list)) room e .0,
+        ap (map traceOf) (bodies-again (map bodyOf list) (encoded-whole list) room e) ∙ traces-again list,
+      );
       read = λ file bytes e.
           let again = round-trip .read file bytes e in (
             ap₂ fileOf (counts-opened file e) (joined-opened file e) ∙ again .0,

@@ -10,7 +10,7 @@ use Rattle.record.specs.Cases.{bytesOfD}
 use Rattle.job.specs.Layout.{maxFile}
 use Rattle.job.specs.Open.{fileRefusal}
 use Rattle.writer.specs.Write.{fileOf, writeRefusal}
-use Rattle.writer.specs.RoundTrip.{tracesOf, countsIn, joined}
+use Rattle.writer.specs.RoundTrip.{tracesOf, fileOfBodies, bodiesRefusal}
 
 -- "For D, hex input 01 00 08 00 00 00 02 00" and D's body
 abbrev pub fileOfD : List ℕ
@@ -27,5 +27,5 @@ pub record FilesAccepted : Type 0 where
   pub taken : writeRefusal (2 ∷ []) bytesOfD (length fileOfD) ≡ 0
   pub written : fileOf (2 ∷ []) bytesOfD ≡ fileOfD
   -- Write takes A to L as twelve traces of one file, and they read back
-  pub allTaken : writeRefusal (countsIn (map bodyOf traceList)) (joined (map bodyOf traceList)) maxFile ≡ 0
-  pub allRead : tracesOf (fileOf (countsIn (map bodyOf traceList)) (joined (map bodyOf traceList))) ≡ traceList
+  pub allTaken : bodiesRefusal (map bodyOf traceList) maxFile ≡ 0
+  pub allRead : tracesOf (fileOfBodies (map bodyOf traceList)) ≡ traceList

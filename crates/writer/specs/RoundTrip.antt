@@ -40,7 +40,7 @@ bodiesOf file = firsts (openBody file) (traces file)
 abbrev pub tracesOf : List ℕ → List Trace
 tracesOf file = map traceOf (bodiesOf file)
 
--- the counts and the joined records that Write takes for bodies
+-- the counts and the joined records of bodies
 abbrev pub countsIn : List (List ℕ) → List ℕ
 countsIn bodies = map (λ body. records body) bodies
 
@@ -48,18 +48,25 @@ unfoldable pub joined : List (List ℕ) → List ℕ
 joined [] = []
 joined (body ∷ bodies) = body ++ joined bodies
 
--- The same over traces: what Write makes of some, and what Open hands back.
+-- what Write makes of them, and why it declines them
+abbrev pub fileOfBodies : List (List ℕ) → List ℕ
+fileOfBodies bodies = fileOf (countsIn bodies) (joined bodies)
+
+abbrev pub bodiesRefusal : List (List ℕ) → ℕ → ℕ
+bodiesRefusal bodies room = writeRefusal (countsIn bodies) (joined bodies) room
+
+-- The same over traces and the bodies that Open hands back.
 pub record TracesRoundTrip : Type 0 where
   -- "A written job file reads back as the same traces"
   pub written :
       (list : List Trace) (room : ℕ) →
-      writeRefusal (countsIn (map bodyOf list)) (joined (map bodyOf list)) room ≡ 0 →
-      tracesOf (fileOf (countsIn (map bodyOf list)) (joined (map bodyOf list))) ≡ list
-  -- "an accepted file is what the writer makes of its traces": of the bodies that Open hands back, which are those of its traces
+      bodiesRefusal (map bodyOf list) room ≡ 0 →
+      (fileRefusal (fileOfBodies (map bodyOf list)) ≡ 0) × (tracesOf (fileOfBodies (map bodyOf list)) ≡ list)
+  -- "and an accepted file is what the writer makes of its traces": of the bodies that Open hands back, which are those of its traces
   pub read :
       (file : List ℕ) →
       Bytes file →
       fileRefusal file ≡ 0 →
-      (fileOf (countsIn (bodiesOf file)) (joined (bodiesOf file)) ≡ file)
-      × (writeRefusal (countsIn (bodiesOf file)) (joined (bodiesOf file)) (length file) ≡ 0)
-      × (map bodyOf (tracesOf file) ≡ bodiesOf file)
+      (fileOfBodies (bodiesOf file) ≡ file)
+      × (bodiesRefusal (bodiesOf file) (length file) ≡ 0)
+      × (bodiesOf file ≡ map bodyOf (tracesOf file))
