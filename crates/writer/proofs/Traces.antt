@@ -27,7 +27,7 @@ use Rattle.writer.proofs.RoundTrip.{round-trip}
 
 -- lists that are made one element after the other
 module _ {A : Type 0} where
-  pub firsts-same : (f g : ℕ → A) (n : ℕ) → ((k : ℕ) → k < n → f k ≡ g k) → firsts f n ≡ firsts g n
+  firsts-same : (f g : ℕ → A) (n : ℕ) → ((k : ℕ) → k < n → f k ≡ g k) → firsts f n ≡ firsts g n
   unfolding firsts
   firsts-same f g zero same = refl
   firsts-same f g (suc n) same =
@@ -38,7 +38,7 @@ module _ {A : Type 0} where
     map-snoc [] a = refl
     map-snoc (x ∷ l) a = ap (λ (m : List B). g x ∷ m) (map-snoc l a)
 
-    pub map-firsts : (f : ℕ → A) (n : ℕ) → map g (firsts f n) ≡ firsts (λ k. g (f k)) n
+    map-firsts : (f : ℕ → A) (n : ℕ) → map g (firsts f n) ≡ firsts (λ k. g (f k)) n
     unfolding firsts
     map-firsts f zero = refl
     map-firsts f (suc n) = map-snoc (firsts f n) (f n) ∙ ap (λ (m : List B). m ++ (g (f n) ∷ [])) (map-firsts f n)
@@ -65,8 +65,10 @@ module _ (file : List ℕ) (accepted : fileRefusal file ≡ 0) where
       part-byte (no h) =
           rw (List·getD-eq-default (bodyAt file t) 0 {n = k} (let e = body-length file (fine .ends) t l in omega arith)) (omega arith)
 
-  pub counts-opened : countsIn (bodiesOf file) ≡ countsOf file
-  counts-opened = map-firsts (λ body. records body) (openBody file) (traces file) ∙ firsts-same _ _ (traces file) λ t l. ap (λ (body : List ℕ). records body) (opened t l) ∙ count-of t l
+  counts-opened : countsIn (bodiesOf file) ≡ countsOf file
+  counts-opened =
+      map-firsts (λ body. records body) (openBody file) (traces file)
+      ∙ firsts-same _ _ (traces file) λ t l. ap (λ (body : List ℕ). records body) (opened t l) ∙ count-of t l
     where
       count-of : (t : ℕ) → t < traces file → records (bodyAt file t) ≡ countAt file t
       count-of t l = let e = body-length file (fine .ends) t l in omega arith
@@ -88,7 +90,7 @@ module _ (file : List ℕ) (accepted : fileRefusal file ≡ 0) where
       ten-times : (m n : ℕ) → recordSize * m + recordSize * n ≡ recordSize * (m + n)
       ten-times m n = omega arith
 
-  pub joined-opened : joined (bodiesOf file) ≡ recordsOf file
+  joined-opened : joined (bodiesOf file) ≡ recordsOf file
   joined-opened =
       joined-below (traces file) (le-refl (traces file))
       ∙ take-all
@@ -99,7 +101,7 @@ module _ (file : List ℕ) (accepted : fileRefusal file ≡ 0) where
       let e = fine .ends in
       omega arith)
 
-  pub encoded-opened : Bytes file → bodiesOf file ≡ map bodyOf (tracesOf file)
+  encoded-opened : Bytes file → bodiesOf file ≡ map bodyOf (tracesOf file)
   encoded-opened bytes =
       sym
       (ap (map bodyOf) (map-firsts traceOf (openBody file) (traces file))
@@ -107,7 +109,7 @@ module _ (file : List ℕ) (accepted : fileRefusal file ≡ 0) where
       ∙ firsts-same _ _ (traces file) λ t l.
       accepted-is-encoded (openBody file t) (opened-bytes bytes t l) (opened-accepted file t (open-accepted file t accepted l)))
 
--- body t among joined ones
+-- where body t stands among joined ones
 before-cons : (c : ℕ) (counts : List ℕ) (t : ℕ) → before (count (c ∷ counts)) (suc t) ≡ c + before (count counts) t
 unfolding before
 before-cons c counts zero = omega arith
@@ -122,7 +124,10 @@ unfolding before joined
 piece [] whole t l = absurd (not-suc-le-zero l)
 piece (body ∷ bodies) whole zero l = take-at body (joined bodies) (recordSize * records body) (whole zero l)
 piece (body ∷ bodies) whole (suc t) l =
-    ap (take (recordSize * count (countsIn bodies) t)) (ap (λ (n : ℕ). drop n (body ++ joined bodies)) place ∙ drop-append-add body (joined bodies) (recordSize * before (count (countsIn bodies)) t))
+    ap
+    (take (recordSize * count (countsIn bodies) t))
+    (ap (λ (n : ℕ). drop n (body ++ joined bodies)) place
+    ∙ drop-append-add body (joined bodies) (recordSize * before (count (countsIn bodies)) t))
     ∙ piece bodies (λ k m. whole (suc k) (omega arith)) t (le-of-suc-le-suc l)
   where
     place : recordSize * before (count (countsIn (body ∷ bodies))) (suc t) ≡ length body + recordSize * before (count (countsIn bodies)) t
@@ -136,7 +141,7 @@ module _ (bodies : List (List ℕ)) (whole : Whole bodies) (room : ℕ) (accepte
   file-traces : traces file ≡ length bodies
   file-traces = round-trip .written (countsIn bodies) (joined bodies) room accepted .1 ∙ length-map bodies (λ body. records body)
 
-  pub bodies-again : bodiesOf file ≡ bodies
+  bodies-again : bodiesOf file ≡ bodies
   bodies-again =
       ext-getD [] (bodiesOf file) bodies same-length λ t l.
       let inside : t < length bodies = omega (arith, same-length) in

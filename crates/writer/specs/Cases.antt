@@ -21,7 +21,7 @@ abbrev pub traceList : List Trace
 traceList = map (λ c. c .trace) cases
 
 pub record FilesAccepted : Type 0 where
-  -- D's file is accepted and has the one trace D; Write makes just its bytes of D
+  -- D's file is accepted and D is its one trace; Write makes these bytes of D's count and body
   pub accepted : fileRefusal fileOfD ≡ 0
   pub read : tracesOf fileOfD ≡ caseD ∷ []
   pub taken : writeRefusal (2 ∷ []) bytesOfD (length fileOfD) ≡ 0
