@@ -1,5 +1,6 @@
 pub mod Alike
 pub mod Accepted
+pub mod Cases
 pub mod Encoding
 pub mod Fits
 pub mod Limits

@@ -4,3 +4,5 @@ pub mod FileBytes
 pub mod WrittenFile
 pub mod ReadFile
 pub mod RoundTrip
+pub mod Traces
+pub mod Cases

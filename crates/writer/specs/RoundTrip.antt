@@ -1,10 +1,11 @@
 -- Demand 2: "A written job file reads back as the same traces, and an accepted file is what the writer makes of its traces."
 use Prim.Native.Nat.{ℕ, _*_, _<_}
-use mathlib.Core.List.{List}
+use mathlib.Core.List.{List, [], _∷_, _++_, map}
 use mathlib.Core.Path.{_≡_}
 use lib.ListN.{length, take, drop}
+use Rattle.machine.specs.Instruction.{Trace}
 use Rattle.record.specs.Layout.{recordSize}
-use Rattle.record.specs.Body.{Bytes, firsts}
+use Rattle.record.specs.Body.{Bytes, records, firsts, traceOf, bodyOf}
 use Rattle.job.specs.Layout.{traces, countAt, before, recordsOf}
 use Rattle.job.specs.Open.{fileRefusal, openBody}
 use Rattle.writer.specs.Write.{count, fileOf, writeRefusal}
@@ -31,3 +32,41 @@ pub record RoundTrip : Type 0 where
       Bytes file →
       fileRefusal file ≡ 0 →
       (fileOf (countsOf file) (recordsOf file) ≡ file) × (writeRefusal (countsOf file) (recordsOf file) (length file) ≡ 0)
+
+-- the bodies that Open hands back, in entry order, and the traces that they stand for
+abbrev pub bodiesOf : List ℕ → List (List ℕ)
+bodiesOf file = firsts (openBody file) (traces file)
+
+abbrev pub tracesOf : List ℕ → List Trace
+tracesOf file = map traceOf (bodiesOf file)
+
+-- the counts and the joined records of bodies
+abbrev pub countsIn : List (List ℕ) → List ℕ
+countsIn bodies = map (λ body. records body) bodies
+
+unfoldable pub joined : List (List ℕ) → List ℕ
+joined [] = []
+joined (body ∷ bodies) = body ++ joined bodies
+
+-- what Write makes of them, and why it declines them
+abbrev pub fileOfBodies : List (List ℕ) → List ℕ
+fileOfBodies bodies = fileOf (countsIn bodies) (joined bodies)
+
+abbrev pub bodiesRefusal : List (List ℕ) → ℕ → ℕ
+bodiesRefusal bodies room = writeRefusal (countsIn bodies) (joined bodies) room
+
+-- The same over traces and the bodies that Open hands back.
+pub record TracesRoundTrip : Type 0 where
+  -- "A written job file reads back as the same traces"
+  pub written :
+      (list : List Trace) (room : ℕ) →
+      bodiesRefusal (map bodyOf list) room ≡ 0 →
+      (fileRefusal (fileOfBodies (map bodyOf list)) ≡ 0) × (tracesOf (fileOfBodies (map bodyOf list)) ≡ list)
+  -- "and an accepted file is what the writer makes of its traces": of the bodies that Open hands back, which are those of its traces
+  pub read :
+      (file : List ℕ) →
+      Bytes file →
+      fileRefusal file ≡ 0 →
+      (fileOfBodies (bodiesOf file) ≡ file)
+      × (bodiesRefusal (bodiesOf file) (length file) ≡ 0)
+      × (bodiesOf file ≡ map bodyOf (tracesOf file))

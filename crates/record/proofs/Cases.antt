@@ -1,0 +1,18 @@
+-- A to L are accepted as bodies, and D's body has the bytes that document 01 prints: by computation.
+use mathlib.Core.Path.{refl}
+use Rattle.machine.specs.Test.{_and_, every, none}
+use Rattle.machine.specs.Cases.{cases, further, caseD}
+use Rattle.record.specs.Refusal.{_then_, _unless_}
+use Rattle.record.specs.Layout.{fieldsFrom}
+use Rattle.record.specs.Rules.{breaksRules, hasUnknown}
+use Rattle.record.specs.Body.{breaksAt, unknownAt, recordOf, bodyOf, lengthRefusal, recordRefusal, unknownRefusal, bodyRefusal, settledRefusal}
+use Rattle.record.specs.Cases.{known, refusalOf, casesAccepted}
+use Rattle.record.specs.Claims.{CasesAccepted, EncodingOfD}
+
+pub cases-accepted : CasesAccepted
+unfolding _and_ every none cases further _then_ _unless_ fieldsFrom breaksRules hasUnknown breaksAt unknownAt recordOf bodyOf lengthRefusal recordRefusal unknownRefusal bodyRefusal settledRefusal known refusalOf casesAccepted
+cases-accepted = tt
+
+pub encoding-of-D : EncodingOfD
+unfolding caseD recordOf bodyOf
+encoding-of-D = refl
