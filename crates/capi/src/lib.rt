@@ -12,7 +12,7 @@ pub use files::sic_open;
 pub use files::sic_record;
 pub use files::sic_report;
 pub use files::sic_write;
-pub use inplace::sic_advance;
+pub use states::sic_advance;
 pub use states::sic_run;
 pub use states::sic_start;
 pub use states::sic_step;

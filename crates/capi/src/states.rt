@@ -21,6 +21,17 @@ pub extern "C" fn sic_step(body: &[u8], s: State) -> Stepped
     pipeline::step(body, s)
 }
 
+// "A second form advances the state in the caller's own storage": what the step by value gives is
+// stored. On a refusal that is the given state, and the refusal's number is given.
+#[no_mangle]
+pub extern "C" fn sic_advance(s: &mut State, body: &[u8]) -> u32
+    ensures { λ r. ⌜ (r ≡ stepAnswer (now (body .entry)) (now (s .entry)) .refusal) × (now (s .exit) ≡ stepAnswer (now (body .entry)) (now (s .entry)) .state) ⌝ }
+{
+    let stepped = pipeline::step(body, *s);
+    *s = stepped.state;
+    stepped.refusal
+}
+
 #[no_mangle]
 pub extern "C" fn sic_run(body: &[u8], limit: u32) -> Ran
     ensures { λ r. ⌜ r ≡ runAnswer (now (body .entry)) limit ⌝ }

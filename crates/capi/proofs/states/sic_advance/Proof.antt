@@ -1,4 +1,4 @@
--- `advance` meets its contract: a walk of its MIR, by hand. The borrow of the state is opened, the state is copied out and passed to `step`, the state that `step` gives is stored, and the borrow is closed at it.
+-- `sic_advance` meets its contract: a walk of its MIR, by hand. The borrow of the state is opened, the state is copied out and passed to `step`, the state that `step` gives is stored, and the borrow is closed at it.
 -- Of `step` the proof knows that it meets its contract. A `&[u8]` is Copy: what it owns goes to `step`, and is kept for the exit.
 use mathlib.Core.Path.{_≡_, refl, ap}
 use Prim.Native.Nat.{ℕ, _<_, _^_}
@@ -51,10 +51,10 @@ use Rattle.pipeline.proofs.step as step
 use Rattle.pipeline.proofs.step.Symbol as step-def
 use Rattle.pipeline.proofs.step.Symbol.{name as #pipeline·step}
 use Rattle.pipeline.proofs.step.Met as step-thm
-use Rattle.inplace.proofs.sic_advance.Key.{name as #inplace·sic-advance}
-use Rattle.inplace.proofs.sic_advance as advance
-use Rattle.inplace.proofs.sic_advance.Statement as stated
-use Rattle.inplace.proofs.sic_advance.Code as code
+use Rattle.capi.proofs.states.sic_advance.Key.{name as #capi·sic-advance}
+use Rattle.capi.proofs.states.sic_advance as advance
+use Rattle.capi.proofs.states.sic_advance.Statement as stated
+use Rattle.capi.proofs.states.sic_advance.Code as code
 
 abbrev R : RattleType
 R = T.the-row
@@ -168,6 +168,6 @@ pub sic-advance-spec : {M : Type 1} → stated.statement M
 unfolding code.routine tablesOf
 sic-advance-spec 𝓤 H 𝓜 𝓖 𝓡 =
     entered 𝓤 H (tripleOf 𝓤 H (𝓖 .A) advance.signature (advance.spec 𝓤 H (𝓖 .A) (𝓜 .mem) (𝓡 .run)))
-    (tables 𝓤 H 𝓜 𝓡 code.env .C) (tables 𝓤 H 𝓜 𝓡 code.env .Λ) #inplace·sic-advance code.function (code.unfolded 𝓤 H 𝓜 𝓡)
+    (tables 𝓤 H 𝓜 𝓡 code.env .C) (tables 𝓤 H 𝓜 𝓡 code.env .Λ) #capi·sic-advance code.function (code.unfolded 𝓤 H 𝓜 𝓡)
     (advance-meets 𝓤 H (𝓖 .A) (givenOf 𝓤 H 𝓜 𝓖) (𝓜 .mem) (𝓡 .run) (tablesOf 𝓤 H 𝓜 (tables 𝓤 H 𝓜 𝓡 code.env))
     (cited 𝓤 H (Step 𝓤 H (𝓖 .A) (𝓜 .mem) (𝓡 .run)) 𝓜 𝓡 code.env #pipeline·step step-def.routine code.calls-pipeline·step (step-thm.met 𝓤 H 𝓜 𝓖 𝓡)))
