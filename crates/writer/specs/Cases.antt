@@ -12,7 +12,7 @@ use Rattle.job.specs.Open.{fileRefusal}
 use Rattle.writer.specs.Write.{fileOf, writeRefusal}
 use Rattle.writer.specs.RoundTrip.{tracesOf, fileOfBodies, bodiesRefusal}
 
--- "For D, hex input 01 00 08 00 00 00 02 00" and D's body
+-- D's job file as document 01 prints it, in hex: 01 00 08 00 00 00 02 00 and D's body
 abbrev pub fileOfD : List ℕ
 fileOfD = 1 ∷ 0 ∷ 8 ∷ 0 ∷ 0 ∷ 0 ∷ 2 ∷ 0 ∷ bytesOfD
 
