@@ -1,4 +1,4 @@
--- A part that is cut out of a file is as many of its bytes, from the same start, as the part has.
+-- A part that is cut out of a file is its bytes from the same start, as many as the part is long.
 use Prim.Native.Nat.{ℕ, zero, suc, _-_}
 use mathlib.Core.List.{List, [], _∷_}
 use mathlib.Core.Path.{_≡_, refl, ap}

@@ -1,4 +1,4 @@
--- What Open answers in other languages, where the part of the file crosses as numbers.
+-- What Open answers in other languages, where the part of the file is passed as numbers.
 use Prim.Native.Nat.{ℕ}
 use mathlib.Core.List.{List}
 use lib.ListN.{length}

@@ -52,6 +52,6 @@ locateAnswer file trace =
     (record { refusal = 0; start = startAt file trace; end = startAt file (suc trace) })
     (record { refusal = openRefusal file trace; start = 0; end = 0 })
 
--- the bytes of a file from start to end, or none where the file ends before
+-- the bytes of a file from start to end, or none if the file ends before that end
 unfoldable pub partOf : List ℕ → ℕ → ℕ → List ℕ
 partOf file start end = cond (leb end (length file)) (take (end - start) (drop start file)) []

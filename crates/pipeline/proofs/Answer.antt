@@ -1,4 +1,4 @@
--- Step's answer, by the way that the code took.
+-- Step's answer on each path through the code.
 use Prim.Native.Nat.{ℕ}
 use mathlib.Core.Path.{_≡_, sym, _∙_}
 use borrow.Author.Tests.{eq-eqb, ne-eqb}

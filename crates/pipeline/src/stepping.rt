@@ -55,8 +55,8 @@ fn opens(held: Slot) -> bool
     !held.filled | (held.count == 0)
 }
 
-// Whether the instruction in the slot could move into the one after it: only where its count is 0 and
-// that slot may be free is it asked who holds it back.
+// Whether the instruction in the slot could move into the one after it: who holds it back is looked
+// up only if its count is 0 and that slot may be free.
 fn released(level: u32, held: Slot, after: Slot, i: Fields, p: Bits, s: State, w: Standing) -> bool
     ensures { λ r. ⌜ ((trace : Trace) →
         Reads trace s w →
@@ -70,7 +70,7 @@ fn released(level: u32, held: Slot, after: Slot, i: Fields, p: Bits, s: State, w
     false
 }
 
-// The same of the next instruction to be fetched, if there is one.
+// The same for the next instruction to be fetched, if there is one.
 fn fetchable(n: u32, p: Bits, s: State, w: Standing) -> bool
     ensures { λ r. ⌜ ((trace : Trace) →
         Reads trace s w →
@@ -83,8 +83,8 @@ fn fetchable(n: u32, p: Bits, s: State, w: Standing) -> bool
     false
 }
 
-// Which stages' instructions move if their next stage will be free: count 0 and ready, and, as far as
-// MEM, a next slot that may be free.
+// Which instructions move if their next stage will be free: those that have count 0, are ready and,
+// up to EX, have a next slot that may be free.
 fn going(n: u32, s: State, w: Standing) -> Bits
     ensures { λ r. ⌜ ((trace : Trace) → Reads trace s w → length trace ≡ n → r ≡ bitsOf (starts trace s)) ⌝ }
 {
@@ -176,7 +176,7 @@ fn slots_after(s: State, w: Standing, moving: Bits, store: bool) -> State
     }
 }
 
-// A cycle in which nobody moves.
+// A cycle in which no instruction moves.
 fn all_stay(s: State) -> State
     ensures { λ r. ⌜ r ≡ standstill s ⌝ }
 {

@@ -1,5 +1,5 @@
 -- Demand 3: of the rules it is what the machine's theory shows, at the traces of bodies; the calls answer what the rules give for every body that
--- they do not refuse, and a run may stop at its finishing time. The body of a settling is its encoding.
+-- they do not refuse, and after the finishing time nothing changes. The body of a settling is its encoding.
 use Prim.Native.Nat.{ℕ, _<_}
 use mathlib.Core.List.{List}
 use mathlib.Core.Path.{_≡_, ap, sym, subst, _∙_}

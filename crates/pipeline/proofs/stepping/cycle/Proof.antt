@@ -1,4 +1,4 @@
--- `pipeline::stepping::cycle` meets its contract: the masks give who moves, and that the new slots; where nobody starts, nobody moves.
+-- `pipeline::stepping::cycle` meets its contract: the masks say who moves, and from that come the new slots; where no instruction starts, none moves.
 use mathlib.Core.Path.{_≡_, sym, ap, _∙_}
 use lib.Dec.{eqb}
 use borrow.Author.Needs.{needs}
