@@ -110,18 +110,23 @@ fn chart(file: &[u8]) {
     model_drawing::print_chart(file);
 }
 
+// Where Open finds a trace, or why it does not.
+pub fn opened(file: &[u8], trace: u32) {
+    let found = model::open(file, trace);
+    field(b": refusal ", found.refusal);
+    text(b" start ");
+    io::print_decimal(1, found.start as u64);
+    text(b" length ");
+    io::print_decimal(1, found.length as u64);
+    text(b"\n");
+}
+
 // O: a trace's number, and a job file.
 fn open(bytes: &[u8]) {
     if bytes.len() == 0 {
         return;
     }
-    let opened = model::open(&bytes[1..], byte(bytes, 0) as u32);
-    field(b": refusal ", opened.refusal);
-    text(b" start ");
-    io::print_decimal(1, opened.start as u64);
-    text(b" length ");
-    io::print_decimal(1, opened.length as u64);
-    text(b"\n");
+    opened(&bytes[1..], byte(bytes, 0) as u32);
 }
 
 fn wide(b: u8) -> u16

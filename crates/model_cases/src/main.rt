@@ -2,6 +2,7 @@
 // worked cases, which stand in the file `stdin`, and those that are long or go by a rule. The file
 // `stdout` has what the document says.
 mod commands;
+mod files;
 mod input;
 mod long;
 mod rows;
@@ -11,5 +12,6 @@ fn main() {
     let n = io::read_full(0, &mut buf);
     commands::lines(&buf[..n]);
     rows::all();
+    files::all();
     long::all();
 }

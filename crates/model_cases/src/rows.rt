@@ -1,44 +1,41 @@
 // Cases that go by a rule: plain instructions in a row, limits on a run, margins.
+use super::files::put_plain;
 use model_drawing::field;
 use model_drawing::last;
 use model_drawing::text;
 ghost use Prim.Native.Nat.{_≤_};
 
-// Bodies of plain instructions are cut from this one: a fetch latency of 1 in each record.
-fn make_plain(body: &mut [u8]) {
-    let mut at = 6;
-    while at < body.len() {
-        body[at] = 1;
-        if body.len() - at < 10 {
-            return;
-        }
-        at += 10;
-    }
-}
-
-// "n plain take n + 5 for n above 0."
-fn plain(body: &[u8]) {
+fn time(body: &[u8]) {
     io::print_decimal(1, (body.len() / 10) as u64);
     field(b" plain: refusal ", model::settled_refusal(body));
     last(b" time ", model::finish(body));
 }
 
-fn first_plain(body: &[u8], most: usize) {
+// The first n of a row of plain instructions.
+fn plain(row: &[u8], n: usize)
+    requires { ⌜ n ≤ 4096 ⌝ }
+{
+    let length = 10 * n;
+    if length <= row.len() {
+        time(&row[..length]);
+    }
+}
+
+fn short_rows(row: &[u8]) {
     let mut n = 0;
-    while n <= most {
-        if 10 * n <= body.len() {
-            plain(&body[..10 * n]);
-        }
+    while n <= 64 {
+        plain(row, n);
         n += 1;
     }
 }
 
+// "n plain take n + 5 for n above 0."
 fn plain_rows() {
-    let mut body = [0u8; 40960];
-    make_plain(&mut body);
-    first_plain(&body, 64);
-    plain(&body[..40950]);
-    plain(&body);
+    let mut row = [0u8; 40960];
+    put_plain(&mut row, 0, 4096);
+    short_rows(&row);
+    plain(&row, 4095);
+    plain(&row, 4096);
 }
 
 // B, one plain instruction.
@@ -58,18 +55,26 @@ fn limit(cycles: u32) {
     }
 }
 
-// The margin of B, with its sign.
+// The three numbers nearest to 0, with their sign.
+fn near_zero(n: i64) {
+    if n == -1 {
+        return text(b"-1\n");
+    }
+    if n == 0 {
+        return text(b"0\n");
+    }
+    if n == 1 {
+        return text(b"1\n");
+    }
+    text(b"far from 0\n");
+}
+
+// The margin of B.
 fn margin(deadline: u32) {
-    let margin = model::margin(deadline, model::bounds(&B).worst);
+    let times = model::bounds(&B);
     field(b"B deadline ", deadline);
     text(b" margin ");
-    if margin < 0 {
-        text(b"-");
-        io::print_decimal(1, (0 - margin) as u64);
-    } else {
-        io::print_decimal(1, margin as u64);
-    }
-    text(b"\n");
+    near_zero(model::margin(deadline, times.worst));
 }
 
 pub fn all() {
