@@ -1,4 +1,4 @@
--- `random::all_turns` is safe and ends.
+-- `random::all_turns` is safe and ends, for all arguments.
 use Prim.Native.Nat.{_≤_, _-_}
 use native.Mathlib.Omega.{arith}
 use Rattle.random.proofs.all_turns.Statement.{statement}

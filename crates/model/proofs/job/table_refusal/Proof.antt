@@ -1,4 +1,4 @@
--- `model::job::table_refusal` is safe and ends. Assumes nothing.
+-- `model::job::table_refusal` is safe and ends, for all arguments.
 use Prim.Native.Nat.{_≤_, _*_, _+_, _-_}
 use native.Mathlib.Omega.{arith}
 use Rattle.model.proofs.job.table_refusal.Statement.{statement}

@@ -1,4 +1,4 @@
--- `model_cases::commands::lines` is safe and ends. Assumes nothing.
+-- `model_cases::commands::lines` is safe and ends, for all arguments.
 use Prim.Native.Nat.{_-_}
 use native.Mathlib.Omega.{arith}
 use lib.ListN.{length}

@@ -1,4 +1,4 @@
--- `model_cases::input::parse` is safe and ends. Assumes nothing.
+-- `model_cases::input::parse` is safe and ends, for all arguments.
 use lib.ListN.{length-set}
 use Rattle.io.proofs.Counting.{counts}
 use mathlib.Core.Path.{_≡_}

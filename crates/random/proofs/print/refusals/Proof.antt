@@ -1,4 +1,4 @@
--- `random::print::refusals` is safe and ends.
+-- `random::print::refusals` is safe and ends, for all arguments.
 use Prim.Native.Nat.{_-_, _≤_}
 use native.Mathlib.Omega.{arith}
 use Rattle.random.proofs.print.refusals.Statement.{statement}
