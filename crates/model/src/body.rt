@@ -32,7 +32,7 @@ fn flags_break(kind: u8, flags: u8) -> bool {
     !has_data(kind) && data_flag(flags) != 0
 }
 
-// "Each 0 to 31. Kinds 2 and 3 have target 0."
+// "each 0 to 31"; "Kinds 2 and 3 have target 0."
 fn registers_break(kind: u8, first: u8, second: u8, target: u8) -> bool {
     if first > 31 || second > 31 || target > 31 {
         return true;
@@ -69,7 +69,7 @@ fn record_breaks(s: &[u8], at: usize) -> bool
     latencies_break(kind, pair(s, at + 6), pair(s, at + 8))
 }
 
-// Of the records from an index to the end, some breaks its rules or is not whole.
+// Some record from an index to the end breaks its rules or is not whole.
 pub fn some_breaks(s: &[u8], start: usize) -> bool {
     let mut at = start;
     while at < s.len() {
@@ -84,7 +84,7 @@ pub fn some_breaks(s: &[u8], start: usize) -> bool {
     false
 }
 
-// Of the whole records of a body, some has an unknown flag.
+// Some whole record of a body has an unknown flag.
 fn some_unknown(body: &[u8]) -> bool {
     let mut at = 0;
     while at < body.len() {

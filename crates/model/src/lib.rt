@@ -1,5 +1,5 @@
 // The second model of the in-order core: the cycle rules and the checks of the document, read
-// literally, for programs that hold the engine against it. It shares no code with the engine.
+// literally, for programs that compare the engine with it. It shares no code with the engine.
 mod body;
 mod job;
 mod older;

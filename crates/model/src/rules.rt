@@ -93,8 +93,8 @@ fn will_be_free(s: Standing, stage: u8, free: u32) -> bool {
     !has(s.others, stage) || has(free, next(PLAIN, stage))
 }
 
-// The stages that will be free; "post is always free". A next stage is a later one, so the last is
-// settled first.
+// The stages that will be free; "post is always free". A next stage is a later one, so stages
+// are decided from the last to the first.
 fn all_free(s: Standing) -> u32 {
     let mut free = with_if(0, POST, true);
     let mut stage = WB;
@@ -160,7 +160,7 @@ fn advanced(x: Instruction, at: Place, is_ready: bool, free: u32) -> Place {
 }
 
 // Moves instruction i and counts it among the older ones. "An instruction in post stays there", and
-// no rule asks of it.
+// no younger one ever waits for it.
 fn move_one(
     body: &[u8],
     stages: &mut [u8],

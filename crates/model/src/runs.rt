@@ -55,7 +55,7 @@ pub fn bound(body: &[u8]) -> u32 {
 }
 
 // The finishing time of a trace without unknown flags, with the places in lent arrays; the largest
-// number, which is none, where not all have left by the bound.
+// number, which is no finishing time, if not all have left by the bound.
 pub fn finish_in(body: &[u8], stages: &mut [u8], counts: &mut [u32]) -> u32 {
     let ran = run(body, bound(body), stages, counts);
     if ran.left { ran.cycles } else { 4294967295 }

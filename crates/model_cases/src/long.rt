@@ -1,7 +1,7 @@
 // Borders that take long bodies and files.
 use model_drawing::last;
 
-// Ones for bytes make loads that keep the rules.
+// Bytes that are all 1 make loads that keep the rules.
 fn bodies() {
     let body = [1u8; 40970];
     last(

@@ -1,5 +1,5 @@
 // Runs cases through the second model and prints a line of what it finds for each: the document's
-// worked cases, which stand in the file `stdin`, and those that are long or go by a rule. The file
+// worked cases, which stand in the file `stdin`, and those that are long or generated. The file
 // `stdout` has what the document says.
 mod commands;
 mod files;

@@ -1,4 +1,4 @@
-// Cases that go by a rule: plain instructions in a row, limits on a run, margins.
+// Cases that are generated: plain instructions in a row, limits on a run, margins.
 use super::files::put_plain;
 use model_drawing::field;
 use model_drawing::last;
