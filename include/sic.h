@@ -25,15 +25,15 @@ extern "C" {
 enum sic_refusal {
     SIC_TOO_LONG = 1,         /* the file is longer than 65,536 bytes */
     SIC_TOO_SHORT = 2,        /* the file is shorter than two bytes */
-    SIC_TOO_MANY_TRACES = 3,  /* more than 16 traces */
+    SIC_TOO_MANY_TRACES = 3,  /* there are more than 16 traces */
     SIC_CUT_TABLE = 4,        /* the file ends within its table */
-    SIC_LARGE_COUNT = 5,      /* a trace of more than 4,096 instructions */
-    SIC_WRONG_OFFSET = 6,     /* an entry's offset is not where its body starts */
+    SIC_LARGE_COUNT = 5,      /* a trace has more than 4,096 instructions */
+    SIC_WRONG_OFFSET = 6,     /* an offset is not where its body starts */
     SIC_WRONG_END = 7,        /* the file does not end with its last body */
     SIC_BROKEN_RECORD = 8,    /* a record breaks its rules */
-    SIC_OUT_OF_RANGE = 9,     /* no such trace, or no such instruction */
+    SIC_OUT_OF_RANGE = 9,     /* there is no such trace or instruction */
     SIC_WRONG_LENGTH = 10,    /* the body is not ten bytes for each of at most 4,096 instructions */
-    SIC_UNKNOWN_FLAG = 11,    /* an unknown flag where every flag must be a hit or a miss */
+    SIC_UNKNOWN_FLAG = 11,    /* a flag is unknown where each must be a hit or a miss */
     SIC_NOT_ORDERLY = 12,     /* the state is not orderly */
     SIC_WRONG_RECORDS = 13,   /* the records are not ten bytes for each instruction counted */
     SIC_SHORT_OUTPUT = 14     /* the output is shorter than the file */
