@@ -11,7 +11,7 @@ use std::hint::black_box;
 
 const N: usize = sic::MAX_INSTRUCTIONS;
 const SHORT: usize = 12;
-/// How many random traces a call goes through in turn: of a single one the processor learns by heart which way each jump goes.
+/// How many random traces a call goes through in turn. On a single one, timed over and over, branch prediction would become perfect.
 const LONG_TRACES: usize = 16;
 const SHORT_TRACES: usize = 1000;
 /// Step checks its whole body in each cycle, so that a few cycles of a long trace tell its cost.
@@ -104,10 +104,14 @@ fn steps(trace: &str, bodies: &[&[u8]]) {
     line("Step in place, a cycle", trace, (a / cycles, b / cycles), None);
 }
 
+/// Records in bodies of so many instructions each.
+fn bodies_of(records: &[u8], instructions: usize) -> Vec<&[u8]> {
+    records.chunks_exact(instructions * sic::RECORD_SIZE).collect()
+}
+
 /// Every call on bodies of so many instructions, with known flags, and with any where the call takes any.
 fn calls(trace: &str, known: &[u8], any: &[u8], instructions: usize) {
-    let known: Vec<&[u8]> = known.chunks_exact(instructions * sic::RECORD_SIZE).collect();
-    let any: Vec<&[u8]> = any.chunks_exact(instructions * sic::RECORD_SIZE).collect();
+    let (known, any) = (bodies_of(known, instructions), bodies_of(any, instructions));
     checks(trace, &known);
     ends(trace, &known);
     bounds(trace, &any);
@@ -118,12 +122,20 @@ fn random_calls(trace: &str, most: u64, instructions: usize, traces: usize) {
     calls(trace, &traces::random(instructions * traces, most, 2), &traces::random(instructions * traces, most, 3), instructions);
 }
 
-fn growth(what: &str, body: &[u8]) {
-    let n = (body.len() / sic::RECORD_SIZE) as f64;
-    let finish = alone(|| sic::finish(black_box(body)));
-    let run = alone(|| sic::run(black_box(body), u32::MAX));
-    let both = alone(|| sic::best_worst(black_box(body)));
-    println!("| {what} | {:.1} ns | {:.1} ns | {:.1} ns |", finish / n, run / n, both / n);
+/// The time of a call for each instruction of the bodies, which it goes through in turn.
+fn each_instruction<T>(bodies: &[&[u8]], f: impl Fn(&[u8]) -> T) -> f64 {
+    let instructions = bodies.iter().map(|b| b.len() / sic::RECORD_SIZE).sum::<usize>() as f64;
+    alone(|| bodies.iter().for_each(|b| drop(black_box(f(black_box(b)))))) / instructions
+}
+
+/// As many instructions in all as the long traces of the first table have, in traces of n each.
+fn growth(n: usize, most: u64) {
+    let (known, any) = (traces::random(N * LONG_TRACES, most, 2), traces::random(N * LONG_TRACES, most, 3));
+    let (known, any) = (bodies_of(&known, n), bodies_of(&any, n));
+    let finish = each_instruction(&known, sic::finish);
+    let run = each_instruction(&known, |b| sic::run(b, u32::MAX));
+    let times = each_instruction(&any, sic::best_worst);
+    println!("| {} | {n} | {most} | {finish:.1} ns | {run:.1} ns | {times:.1} ns |", known.len());
 }
 
 fn main() {
@@ -133,12 +145,12 @@ fn main() {
     random_calls("random, 12 instructions", 8, SHORT, SHORT_TRACES);
     calls("plain", &traces::plain(N), &traces::plain(N), N);
     calls("the longest", &traces::longest(), &traces::longest(), N);
-    println!("\n| random trace | Finish, an instruction | Run | Best and worst |\n|---|---|---|---|");
-    for n in [16, 64, 256, 1024, 4096] {
-        growth(&format!("{n} instructions, latencies to 8"), &traces::random(n, 8, 2));
+    println!("\n| random traces | instructions in each | latencies to | Finish, an instruction | Run | Best and worst |\n|---|---|---|---|---|---|");
+    for n in [16, 64, 256, 1024, N] {
+        growth(n, 8);
     }
     for most in [1, 100, 5000, 65535] {
-        growth(&format!("{N} instructions, latencies to {most}"), &traces::random(N, most, 2));
+        growth(N, most);
     }
     match mca::time(N) {
         Some(t) => println!("\nllvm-mca, {N} instructions: {:.2} ms beside its start", t / 1e6),
