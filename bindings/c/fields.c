@@ -58,23 +58,24 @@ static void both_steps(const char *what, sic_state from, uint32_t refusal, sic_s
 }
 
 /* By name, so that a field's place in the header counts. */
+#define STATE(f, if_, id, ex, mem, st, wb) {.fetched = f, .IF = if_, .ID = id, .EX = ex, .MEM = mem, .ST = st, .WB = wb}
 #define AT(i, c) {.filled = true, .index = i, .count = c}
 #define NONE {.filled = false, .index = 0, .count = 0}
 
-static const sic_state waiting = {.fetched = 8, .IF = AT(7, IF_COUNT), .ID = AT(6, 0), .EX = AT(5, EX_COUNT), .MEM = AT(4, MEM_COUNT), .ST = AT(1, ST_COUNT), .WB = AT(3, 0)};
+static const sic_state waiting = STATE(8, AT(7, IF_COUNT), AT(6, 0), AT(5, EX_COUNT), AT(4, MEM_COUNT), AT(1, ST_COUNT), AT(3, 0));
 
 /* WB leaves, ID waits for EX, and the other counts fall. */
 static void counts_fall(void) {
-    const sic_state want = {.fetched = 8, .IF = AT(7, IF_COUNT - 1), .ID = AT(6, 0), .EX = AT(5, EX_COUNT - 1), .MEM = AT(4, MEM_COUNT - 1), .ST = AT(1, ST_COUNT - 1), .WB = NONE};
+    const sic_state want = STATE(8, AT(7, IF_COUNT - 1), AT(6, 0), AT(5, EX_COUNT - 1), AT(4, MEM_COUNT - 1), AT(1, ST_COUNT - 1), NONE);
     both_steps("where counts fall", waiting, 0, want);
 }
 
 static void all_move(void) {
-    const sic_state load = {.fetched = 8, .IF = AT(7, 0), .ID = AT(6, 0), .EX = AT(5, 0), .MEM = AT(4, 0), .ST = AT(1, 0), .WB = AT(3, 0)};
-    const sic_state in_wb = {.fetched = 9, .IF = AT(8, NEXT_IF_COUNT), .ID = AT(7, 0), .EX = AT(6, NEXT_EX_COUNT), .MEM = AT(5, 0), .ST = NONE, .WB = AT(4, 0)};
+    const sic_state load = STATE(8, AT(7, 0), AT(6, 0), AT(5, 0), AT(4, 0), AT(1, 0), AT(3, 0));
+    const sic_state in_wb = STATE(9, AT(8, NEXT_IF_COUNT), AT(7, 0), AT(6, NEXT_EX_COUNT), AT(5, 0), NONE, AT(4, 0));
     both_steps("where a load leaves MEM", load, 0, in_wb);
-    const sic_state store = {.fetched = 5, .IF = AT(4, 0), .ID = AT(3, 0), .EX = AT(2, 0), .MEM = AT(1, 0), .ST = NONE, .WB = AT(0, 0)};
-    const sic_state in_st = {.fetched = 6, .IF = AT(5, 0), .ID = AT(4, 0), .EX = AT(3, 0), .MEM = AT(2, 0), .ST = AT(1, ST_COUNT), .WB = NONE};
+    const sic_state store = STATE(5, AT(4, 0), AT(3, 0), AT(2, 0), AT(1, 0), NONE, AT(0, 0));
+    const sic_state in_st = STATE(6, AT(5, 0), AT(4, 0), AT(3, 0), AT(2, 0), AT(1, ST_COUNT), NONE);
     both_steps("where a store leaves MEM", store, 0, in_st);
 }
 
@@ -98,7 +99,7 @@ static void each_field_matters(void) {
 
 /* A refused state comes back, every field with a value of its own. */
 static void handed_back(void) {
-    sic_state s = {.fetched = 1000, .IF = AT(1, 11), .ID = AT(2, 12), .EX = AT(3, 13), .MEM = AT(4, 14), .ST = AT(5, 15), .WB = AT(6, 16)};
+    sic_state s = STATE(1000, AT(1, 11), AT(2, 12), AT(3, 13), AT(4, 14), AT(5, 15), AT(6, 16));
     for (int i = 0; i < 6; i++) {
         slot_of(&s, i)->filled = false;
         both_steps("of a refused state", s, SIC_NOT_ORDERLY, s);
