@@ -1,14 +1,22 @@
-/* The timing engine of the strictly in-order core, for C.
+/* The timing engine of the strictly in-order core, for C and C++.
  *
  * Link target/staticlib/libcapi.a, which `rt staticlib capi` proves and writes (x86-64 Linux).
  *
- * A slice is a pointer and a length in elements; an empty one has any pointer that is not null. Nothing
- * is kept after a call: what is lent stays the caller's, and only `out` and `state` are written to. They
- * must not overlap with anything else that is lent to the same call, and a bool in a state must be one
- * of C's, 0 or 1. Otherwise no call has a precondition: files, bodies and states may hold anything.
+ * What the caller ensures. No call can test it, the proofs take it for granted, and where it does not hold
+ * anything may happen. (In Rust the compiler sees to it.)
  *
- * A call that declines gives the first refusal number of its list below that applies, zeros for numbers,
- * false for a yes or no and an empty part, and leaves what was lent as it was, where not told otherwise.
+ *  - A pointer is not null, even where its length is 0, and is aligned for its type.
+ *  - A length counts elements, and that many stand behind the pointer. No other thread writes to them
+ *    during the call, nor reads what the call writes.
+ *  - `out` and `state` overlap with nothing else that is lent to the same call. The others may overlap.
+ *  - A bool in a state is 0 or 1, as every bool that C makes.
+ *
+ * Nothing else is asked: files, bodies, records, states and numbers may hold anything, and a call refuses
+ * what it cannot take. Nothing is kept after a call, and only `out` and `state` are written to.
+ *
+ * A call that declines gives the first refusal number of its list below that applies, and leaves what was
+ * lent as it was. Its other numbers are then 0, a yes or no is false and a part is empty; Step gives the
+ * state that it was given, Run the starting state.
  */
 #ifndef SIC_H
 #define SIC_H
@@ -21,19 +29,19 @@
 extern "C" {
 #endif
 
-/* The refusal numbers; 0 is none. */
+/* The refusal numbers, in the words of docs/FORMAT.md, which says what to do too; 0 is none. */
 enum sic_refusal {
     SIC_TOO_LONG = 1,         /* the file is longer than 65,536 bytes */
     SIC_TOO_SHORT = 2,        /* the file is shorter than two bytes */
-    SIC_TOO_MANY_TRACES = 3,  /* more than 16 traces */
+    SIC_TOO_MANY_TRACES = 3,  /* there are more than 16 traces */
     SIC_CUT_TABLE = 4,        /* the file ends within its table */
-    SIC_LARGE_COUNT = 5,      /* a trace of more than 4,096 instructions */
-    SIC_WRONG_OFFSET = 6,     /* an entry's offset is not where its body starts */
+    SIC_LARGE_COUNT = 5,      /* a trace has more than 4,096 instructions */
+    SIC_WRONG_OFFSET = 6,     /* an offset is not where its body starts */
     SIC_WRONG_END = 7,        /* the file does not end with its last body */
     SIC_BROKEN_RECORD = 8,    /* a record breaks its rules */
-    SIC_OUT_OF_RANGE = 9,     /* no such trace, or no such instruction */
+    SIC_OUT_OF_RANGE = 9,     /* there is no such trace or instruction */
     SIC_WRONG_LENGTH = 10,    /* the body is not ten bytes for each of at most 4,096 instructions */
-    SIC_UNKNOWN_FLAG = 11,    /* an unknown flag where every flag must be a hit or a miss */
+    SIC_UNKNOWN_FLAG = 11,    /* a flag is unknown where each must be a hit or a miss */
     SIC_NOT_ORDERLY = 12,     /* the state is not orderly */
     SIC_WRONG_RECORDS = 13,   /* the records are not ten bytes for each instruction counted */
     SIC_SHORT_OUTPUT = 14     /* the output is shorter than the file */
@@ -140,7 +148,7 @@ sic_state sic_start(void);
 /* Step: the state one cycle on, or the state given. 10, 8, 11, 12. */
 sic_stepped sic_step(const uint8_t *body, size_t body_length, sic_state state);
 
-/* The same in the caller's own storage, which costs least; the refusal number. */
+/* The same in the caller's own storage, where a refused state stays as it was; the refusal number. */
 uint32_t sic_advance(sic_state *state, const uint8_t *body, size_t body_length);
 
 /* Run: at most `limit` cycles from the start. 10, 8, 11. */

@@ -11,7 +11,8 @@
 //! assert_eq!(sic::best_worst(&unknown_fetch), Ok(sic::Times { best: 6, worst: 16 }));
 //! assert_eq!(sic::finish(&unknown_fetch), Err(Refusal::UnknownFlag));
 //! ```
-mod raw;
+mod layout;
+pub mod raw;
 mod refusal;
 
 use refusal::answer;
@@ -61,34 +62,6 @@ impl State {
     pub fn advance(&mut self, body: &[u8]) -> Result<(), Refusal> {
         answer(unsafe { raw::sic_advance(self, body.as_ptr(), body.len()) }, ())
     }
-
-    /// A copy that is read as the fields were written: a wider load would wait until the narrow stores before it have
-    /// reached the cache, which costs a tenth of a step or more.
-    #[inline]
-    fn field_by_field(&self) -> State {
-        State {
-            fetched: alone(&self.fetched),
-            IF: self.IF.field_by_field(),
-            ID: self.ID.field_by_field(),
-            EX: self.EX.field_by_field(),
-            MEM: self.MEM.field_by_field(),
-            ST: self.ST.field_by_field(),
-            WB: self.WB.field_by_field(),
-        }
-    }
-}
-
-impl Slot {
-    #[inline]
-    fn field_by_field(&self) -> Slot {
-        Slot { filled: alone(&self.filled), index: alone(&self.index), count: alone(&self.count) }
-    }
-}
-
-/// Reads a field by a load of its own.
-#[inline]
-fn alone<T: Copy>(field: &T) -> T {
-    unsafe { std::ptr::read_volatile(field) }
 }
 
 impl Default for State {
@@ -180,9 +153,9 @@ pub fn write(counts: &[u16], records: &[u8], out: &mut [u8]) -> Result<usize, Re
 /// The state one cycle on. Refuses 10, 8, 11, 12.
 #[inline]
 pub fn step(body: &[u8], state: State) -> Result<State, Refusal> {
-    let mut own = state.field_by_field();
+    let mut own = state;
     own.advance(body)?;
-    Ok(own.field_by_field())
+    Ok(own)
 }
 
 /// At most `limit` cycles from the start. Refuses 10, 8, 11.

@@ -1,4 +1,4 @@
-//! The functions of include/sic.h as they cross; `step` goes through `sic_advance`, which copies less than `sic_step`.
+//! The functions and structs of include/sic.h, as C has them and with its rules for the caller.
 use crate::{Record, State};
 
 #[repr(C)]
@@ -18,6 +18,12 @@ pub struct Written {
 pub struct Read {
     pub refusal: u32,
     pub fields: Record,
+}
+
+#[repr(C)]
+pub struct Stepped {
+    pub refusal: u32,
+    pub state: State,
 }
 
 #[repr(C)]
@@ -66,6 +72,7 @@ extern "C" {
     pub fn sic_check(body: *const u8, body_length: usize) -> u32;
     pub fn sic_record(body: *const u8, body_length: usize, k: u32) -> Read;
     pub fn sic_start() -> State;
+    pub fn sic_step(body: *const u8, body_length: usize, state: State) -> Stepped;
     pub fn sic_advance(state: *mut State, body: *const u8, body_length: usize) -> u32;
     pub fn sic_run(body: *const u8, body_length: usize, limit: u32) -> Ran;
     pub fn sic_finish(body: *const u8, body_length: usize) -> Finished;

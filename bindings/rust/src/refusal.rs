@@ -56,7 +56,7 @@ impl Refusal {
             Refusal::TooManyTraces => "there are more than 16 traces",
             Refusal::CutTable => "the file ends within its table",
             Refusal::LargeCount => "a trace has more than 4,096 instructions",
-            Refusal::WrongOffset => "an entry's offset is not where its body starts",
+            Refusal::WrongOffset => "an offset is not where its body starts",
             Refusal::WrongEnd => "the file does not end with its last body",
             Refusal::BrokenRecord => "a record breaks its rules",
             Refusal::OutOfRange => "there is no such trace or instruction",

@@ -1,10 +1,10 @@
-// The refusal numbers; 0 is no refusal.
+// The refusal numbers that calls share, in the words of docs/FORMAT.md; 0 is no refusal.
 
 // A record breaks its rules.
 pub const BROKEN_RECORD: u32 = 8;
-// An index is not below what it counts: an instruction of a body, a trace of a file.
+// There is no such trace or instruction.
 pub const OUT_OF_RANGE: u32 = 9;
-// A body's length is not ten times a number up to 4,096.
+// The body is not ten bytes for each of at most 4,096 instructions.
 pub const WRONG_LENGTH: u32 = 10;
-// A flag is unknown.
+// A flag is unknown where each must be a hit or a miss.
 pub const UNKNOWN_FLAG: u32 = 11;

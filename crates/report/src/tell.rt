@@ -37,16 +37,24 @@ pub(crate) fn misfit(deadlines: usize, traces: u32) {
 
 fn reason(number: u32) {
     match number {
-        1 => say(b"longer than 65536 bytes, which no job file is\n"),
+        1 => say(b"the file is longer than 65,536 bytes; split the traces over several files\n"),
         2 => say(
-            b"the file is empty or cut after one byte; a job file starts with the number of its traces\n",
+            b"the file is shorter than two bytes; it is empty or was cut, so write it again\n",
         ),
-        3 => say(b"more than 16 traces; is this a job file? tools/assemble makes one of text\n"),
-        4 => say(b"the file ends within its table of traces\n"),
-        5 => say(b"a trace of more than 4096 instructions\n"),
-        6 => say(b"a trace does not start where the one before it ends\n"),
-        7 => say(b"the file does not end where its last trace does\n"),
-        _ => say(b"a record breaks the rules in docs/FORMAT.md\n"),
+        3 => say(
+            b"there are more than 16 traces; split them over several files, or, if this is text, make a job file of it with tools/assemble\n",
+        ),
+        4 => say(b"the file ends within its table; it was cut, so write it again\n"),
+        5 => say(b"a trace has more than 4,096 instructions; give the task as several traces\n"),
+        6 => say(
+            b"an offset is not where its body starts; offsets follow from the counts, and the first is 2 + 6 times the number of traces\n",
+        ),
+        7 => say(
+            b"the file does not end with its last body; it was cut, or has bytes after its last body\n",
+        ),
+        _ => say(
+            b"a record breaks its rules; compare it with the table of the record in docs/FORMAT.md\n",
+        ),
     }
 }
 

@@ -11,9 +11,9 @@ use std::hint::black_box;
 
 const N: usize = sic::MAX_INSTRUCTIONS;
 const SHORT: usize = 12;
-/// How many random traces a call goes through in turn: of a single one the processor learns by heart which way each jump goes.
-const LONG_TRACES: usize = 16;
-const SHORT_TRACES: usize = 1000;
+/// How many random instructions a call goes through, trace after trace, before it meets the first trace again: few of them, timed
+/// over and over, would be learnt by branch prediction, for which a trace that is seen once gives no time.
+const RANDOM: usize = 16 * N;
 /// Step checks its whole body in each cycle, so that a few cycles of a long trace tell its cost.
 const STEPS: u32 = 16;
 
@@ -94,51 +94,75 @@ fn in_place(body: &[u8], mut state: sic::State, cycles: u32) -> sic::State {
     state
 }
 
+/// Step by value as C calls it.
+fn by_value(body: &[u8], state: sic::State) -> sic::State {
+    let stepped = unsafe { sic::raw::sic_step(body.as_ptr(), body.len(), state) };
+    assert_eq!(stepped.refusal, 0);
+    stepped.state
+}
+
+/// The same cycles by each form of Step; the time of one.
 fn steps(trace: &str, bodies: &[&[u8]]) {
-    let stretches: Vec<_> = bodies.iter().map(|b| stretch(b)).collect();
+    type Stretch<'a> = (&'a [u8], sic::State, u32);
+    let stretches: Vec<Stretch> = bodies.iter().map(|b| stretch(b)).collect();
     let cycles = stretches.iter().map(|s| s.2 as f64).sum::<f64>() / bodies.len() as f64;
-    let rust = |&(body, from, cycles): &(&[u8], sic::State, u32)| (0..cycles).fold(from, |s, _| natural::step(black_box(body), &s).unwrap());
-    let (a, b) = race_each(&stretches, |&(body, from, cycles)| (0..cycles).fold(from, |s, _| sic::step(black_box(body), s).unwrap()), rust);
-    line("Step, a cycle", trace, (a / cycles, b / cycles), None);
-    let (a, b) = race_each(&stretches, |&(body, from, cycles)| in_place(body, from, cycles), rust);
-    line("Step in place, a cycle", trace, (a / cycles, b / cycles), None);
+    let rust = |&(body, from, cycles): &Stretch| (0..cycles).fold(from, |s, _| natural::step(black_box(body), &s).unwrap());
+    let cycle = |call: &str, ours: &dyn Fn(&Stretch) -> sic::State| {
+        let (a, b) = race_each(&stretches, ours, rust);
+        line(call, trace, (a / cycles, b / cycles), None);
+    };
+    cycle("Step, a cycle", &|&(body, from, cycles)| (0..cycles).fold(from, |s, _| sic::step(black_box(body), s).unwrap()));
+    cycle("Step in place, a cycle", &|&(body, from, cycles)| in_place(body, from, cycles));
+    cycle("Step from C, a cycle", &|&(body, from, cycles)| (0..cycles).fold(from, |s, _| by_value(black_box(body), s)));
+}
+
+/// Records in bodies of so many instructions each.
+fn bodies_of(records: &[u8], instructions: usize) -> Vec<&[u8]> {
+    records.chunks_exact(instructions * sic::RECORD_SIZE).collect()
 }
 
 /// Every call on bodies of so many instructions, with known flags, and with any where the call takes any.
 fn calls(trace: &str, known: &[u8], any: &[u8], instructions: usize) {
-    let known: Vec<&[u8]> = known.chunks_exact(instructions * sic::RECORD_SIZE).collect();
-    let any: Vec<&[u8]> = any.chunks_exact(instructions * sic::RECORD_SIZE).collect();
+    let (known, any) = (bodies_of(known, instructions), bodies_of(any, instructions));
     checks(trace, &known);
     ends(trace, &known);
     bounds(trace, &any);
     steps(trace, &known);
 }
 
-fn random_calls(trace: &str, most: u64, instructions: usize, traces: usize) {
-    calls(trace, &traces::random(instructions * traces, most, 2), &traces::random(instructions * traces, most, 3), instructions);
+fn random_calls(trace: &str, most: u64, instructions: usize) {
+    calls(trace, &traces::random(RANDOM, most, 2), &traces::random(RANDOM, most, 3), instructions);
 }
 
-fn growth(what: &str, body: &[u8]) {
-    let n = (body.len() / sic::RECORD_SIZE) as f64;
-    let finish = alone(|| sic::finish(black_box(body)));
-    let run = alone(|| sic::run(black_box(body), u32::MAX));
-    let both = alone(|| sic::best_worst(black_box(body)));
-    println!("| {what} | {:.1} ns | {:.1} ns | {:.1} ns |", finish / n, run / n, both / n);
+/// The time of a call for each instruction of the bodies, which it goes through in turn.
+fn each_instruction<T>(bodies: &[&[u8]], f: impl Fn(&[u8]) -> T) -> f64 {
+    let instructions = bodies.iter().map(|b| b.len() / sic::RECORD_SIZE).sum::<usize>() as f64;
+    alone(|| bodies.iter().for_each(|b| drop(black_box(f(black_box(b)))))) / instructions
+}
+
+/// What an instruction costs in random traces of n instructions each.
+fn growth(n: usize, most: u64) {
+    let (known, any) = (traces::random(RANDOM, most, 2), traces::random(RANDOM, most, 3));
+    let (known, any) = (bodies_of(&known, n), bodies_of(&any, n));
+    let finish = each_instruction(&known, sic::finish);
+    let run = each_instruction(&known, |b| sic::run(b, u32::MAX));
+    let times = each_instruction(&any, sic::best_worst);
+    println!("| {} | {n} | {most} | {finish:.1} ns | {run:.1} ns | {times:.1} ns |", known.len());
 }
 
 fn main() {
     println!("| call | trace of {N}, or as told | time | of the same in Rust | times faster than cycle after cycle |\n|---|---|---|---|---|");
-    random_calls("random, latencies to 8", 8, N, LONG_TRACES);
-    random_calls("random, latencies to 5,000", 5000, N, LONG_TRACES);
-    random_calls("random, 12 instructions", 8, SHORT, SHORT_TRACES);
+    random_calls("random, latencies to 8", 8, N);
+    random_calls("random, latencies to 5,000", 5000, N);
+    random_calls("random, 12 instructions", 8, SHORT);
     calls("plain", &traces::plain(N), &traces::plain(N), N);
     calls("the longest", &traces::longest(), &traces::longest(), N);
-    println!("\n| random trace | Finish, an instruction | Run | Best and worst |\n|---|---|---|---|");
-    for n in [16, 64, 256, 1024, 4096] {
-        growth(&format!("{n} instructions, latencies to 8"), &traces::random(n, 8, 2));
+    println!("\n| random traces | instructions in each | latencies to | Finish, an instruction | Run | Best and worst |\n|---|---|---|---|---|---|");
+    for n in [16, 64, 256, 1024, N] {
+        growth(n, 8);
     }
     for most in [1, 100, 5000, 65535] {
-        growth(&format!("{N} instructions, latencies to {most}"), &traces::random(N, most, 2));
+        growth(N, most);
     }
     match mca::time(N) {
         Some(t) => println!("\nllvm-mca, {N} instructions: {:.2} ms beside its start", t / 1e6),

@@ -67,6 +67,7 @@ impl Instruction {
     }
 }
 
+/// With `|`, by which all rules are tested: with `||` the branches are mispredicted, and Rust takes longer over long bodies.
 fn broken(b: &[u8]) -> bool {
     let i = read(b);
     let memory = (i.kind == LOAD) | (i.kind == STORE);

@@ -1,0 +1,210 @@
+/* Every field of every struct of sic.h, lent or answered with a value of its own: a field that the library has at another
+ * place than the header gives another value here. The limits of sic.h are tried too, each at its border. */
+#include "sic.h"
+#include <stdio.h>
+#include <string.h>
+
+static unsigned tried, differ;
+
+static void is(const char *what, long long got, long long want) {
+    tried++;
+    if (got == want) return;
+    differ++;
+    fprintf(stderr, "%s is %lld, not %lld\n", what, got, want);
+}
+#define IS(got, want) is(#got, (long long)(got), (long long)(want))
+
+/* So that each slot can hold an instruction with a count of its own: 1 is a store and 4 a load, and both miss. */
+enum { IF_COUNT = 20, NEXT_IF_COUNT = 21, EX_COUNT = 30, NEXT_EX_COUNT = 31, MEM_COUNT = 40, ST_COUNT = 49 };
+static const uint8_t body[90] = {
+    0, 0, 0, 0, 0, 0, 1, 0, 0, 0,  /* 0 */
+    2, 4, 0, 0, 0, 0, 1, 0, 50, 0, /* 1 */
+    0, 0, 0, 0, 0, 0, 1, 0, 0, 0,  /* 2 */
+    0, 0, 0, 0, 0, 0, 1, 0, 0, 0,  /* 3 */
+    1, 4, 0, 0, 0, 0, 1, 0, 40, 0, /* 4 */
+    0, 0, 0, 0, 0, 30, 1, 0, 0, 0, /* 5 */
+    0, 0, 0, 0, 0, 31, 1, 0, 0, 0, /* 6 */
+    0, 1, 0, 0, 0, 0, 20, 0, 0, 0, /* 7 */
+    0, 1, 0, 0, 0, 0, 21, 0, 0, 0, /* 8 */
+};
+
+static sic_slot *slot_of(sic_state *s, int stage) {
+    sic_slot *const slots[6] = {&s->IF, &s->ID, &s->EX, &s->MEM, &s->ST, &s->WB};
+    return slots[stage];
+}
+
+/* The 19 fields in the header's order. */
+static void same_state(const char *what, sic_state got, sic_state want) {
+    static const char *const stages[6] = {"IF", "ID", "EX", "MEM", "ST", "WB"};
+    char name[80];
+    snprintf(name, sizeof name, "fetched %s", what);
+    is(name, got.fetched, want.fetched);
+    for (int i = 0; i < 6; i++) {
+        const sic_slot *g = slot_of(&got, i), *w = slot_of(&want, i);
+        snprintf(name, sizeof name, "%s %s", stages[i], what);
+        is(name, g->filled, w->filled);
+        is(name, g->index, w->index);
+        is(name, g->count, w->count);
+    }
+}
+
+/* Step by value and in place. */
+static void both_steps(const char *what, sic_state from, uint32_t refusal, sic_state want) {
+    sic_stepped stepped = sic_step(body, sizeof body, from);
+    is(what, stepped.refusal, refusal);
+    same_state(what, stepped.state, want);
+    is(what, sic_advance(&from, body, sizeof body), refusal);
+    same_state(what, from, want);
+}
+
+/* By name, so that a field's place in the header counts. */
+#define STATE(f, if_, id, ex, mem, st, wb) {.fetched = f, .IF = if_, .ID = id, .EX = ex, .MEM = mem, .ST = st, .WB = wb}
+#define AT(i, c) {.filled = true, .index = i, .count = c}
+#define NONE {.filled = false, .index = 0, .count = 0}
+
+static const sic_state waiting = STATE(8, AT(7, IF_COUNT), AT(6, 0), AT(5, EX_COUNT), AT(4, MEM_COUNT), AT(1, ST_COUNT), AT(3, 0));
+
+/* WB leaves, ID waits for EX, and the other counts fall. */
+static void counts_fall(void) {
+    const sic_state want = STATE(8, AT(7, IF_COUNT - 1), AT(6, 0), AT(5, EX_COUNT - 1), AT(4, MEM_COUNT - 1), AT(1, ST_COUNT - 1), NONE);
+    both_steps("where counts fall", waiting, 0, want);
+}
+
+static void all_move(void) {
+    const sic_state load = STATE(8, AT(7, 0), AT(6, 0), AT(5, 0), AT(4, 0), AT(1, 0), AT(3, 0));
+    const sic_state in_wb = STATE(9, AT(8, NEXT_IF_COUNT), AT(7, 0), AT(6, NEXT_EX_COUNT), AT(5, 0), NONE, AT(4, 0));
+    both_steps("where a load leaves MEM", load, 0, in_wb);
+    const sic_state store = STATE(5, AT(4, 0), AT(3, 0), AT(2, 0), AT(1, 0), NONE, AT(0, 0));
+    const sic_state in_st = STATE(6, AT(5, 0), AT(4, 0), AT(3, 0), AT(2, 0), AT(1, ST_COUNT), NONE);
+    both_steps("where a store leaves MEM", store, 0, in_st);
+}
+
+/* Each field of an orderly state altered alone, after which it is not orderly. */
+static void each_field_matters(void) {
+    sic_state s = waiting;
+    s.fetched++;
+    both_steps("with one more fetched", s, SIC_NOT_ORDERLY, s);
+    for (int i = 0; i < 6; i++) {
+        s = waiting;
+        slot_of(&s, i)->filled = false;
+        both_steps("with a slot not filled", s, SIC_NOT_ORDERLY, s);
+        s = waiting;
+        slot_of(&s, i)->index++;
+        both_steps("with the next index", s, SIC_NOT_ORDERLY, s);
+        s = waiting;
+        slot_of(&s, i)->count++;
+        both_steps("with a count too large", s, SIC_NOT_ORDERLY, s);
+    }
+}
+
+/* A refused state comes back, every field with a value of its own. */
+static void handed_back(void) {
+    sic_state s = STATE(1000, AT(1, 11), AT(2, 12), AT(3, 13), AT(4, 14), AT(5, 15), AT(6, 16));
+    for (int i = 0; i < 6; i++) {
+        slot_of(&s, i)->filled = false;
+        both_steps("of a refused state", s, SIC_NOT_ORDERLY, s);
+    }
+}
+
+/* Run's states are Step's, from the first to the last. */
+static void runs(void) {
+    sic_state s = sic_start();
+    const uint32_t finish = sic_finish(body, sizeof body).time;
+    for (uint32_t t = 0; t <= finish + 1; t++) {
+        sic_ran ran = sic_run(body, sizeof body, t);
+        IS(ran.refusal, 0);
+        same_state("after a run", ran.state, s);
+        IS(ran.cycles, t < finish ? t : finish);
+        IS(ran.left, t >= finish);
+        IS(sic_advance(&s, body, sizeof body), 0);
+    }
+    sic_ran refused = sic_run(body, 9, 7);
+    IS(refused.refusal, SIC_WRONG_LENGTH);
+    same_state("after a refused run", refused.state, sic_start());
+    IS(refused.cycles, 0);
+    IS(refused.left, false);
+}
+
+/* A load whose access is unknown and a plain instruction: 8 cycles at best, 18 at worst. */
+static const uint8_t task[20] = {1, 8, 0, 0, 1, 0, 1, 0, 10, 0, 0, 0, 1, 0, 0, 0, 1, 0, 0, 0};
+static const uint8_t plain[20] = {0, 0, 0, 0, 0, 0, 1, 0, 0, 0, 0, 0, 0, 0, 0, 0, 1, 0, 0, 0};
+
+static void times(void) {
+    sic_times t = sic_best_worst(task, sizeof task);
+    IS(t.refusal, 0), IS(t.best, 8), IS(t.worst, 18);
+    t = sic_best_worst(task, 11);
+    IS(t.refusal, SIC_WRONG_LENGTH), IS(t.best, 0), IS(t.worst, 0);
+    sic_finished f = sic_finish(plain, sizeof plain);
+    IS(f.refusal, 0), IS(f.time, 7);
+    f = sic_finish(task, sizeof task);
+    IS(f.refusal, SIC_UNKNOWN_FLAG), IS(f.time, 0);
+    sic_slack m = sic_margin(task, sizeof task, 0);
+    IS(m.refusal, 0), IS(m.margin, -18);
+    m = sic_margin(task, sizeof task, UINT32_MAX);
+    IS(m.refusal, 0), IS(m.margin, 4294967277);
+    m = sic_margin(task, 11, 7);
+    IS(m.refusal, SIC_WRONG_LENGTH), IS(m.margin, 0);
+    sic_likeness a = sic_alike(plain, sizeof plain, plain, sizeof plain);
+    IS(a.refusal, 0), IS(a.alike, true);
+    a = sic_alike(plain, sizeof plain, plain, 10);
+    IS(a.refusal, 0), IS(a.alike, false);
+    a = sic_alike(plain, sizeof plain, task, sizeof task);
+    IS(a.refusal, SIC_UNKNOWN_FLAG), IS(a.alike, false);
+}
+
+static void records(void) {
+    static const uint8_t any[20] = {0, 0, 0, 0, 0, 0, 0, 0, 0, 0, 211, 0xf9, 33, 44, 55, 66, 0x34, 0x12, 0x78, 0x56};
+    sic_read r = sic_record(any, sizeof any, 1);
+    IS(r.refusal, 0), IS(r.fields.kind, 211), IS(r.fields.fetch, 1), IS(r.fields.access, 2);
+    IS(r.fields.source1, 33), IS(r.fields.source2, 44), IS(r.fields.target, 55), IS(r.fields.execution, 66);
+    IS(r.fields.fetch_latency, 0x1234), IS(r.fields.data_latency, 0x5678);
+    IS(sic_record(any, sizeof any, 2).refusal, SIC_OUT_OF_RANGE);
+}
+
+static void files(void) {
+    static uint8_t file[SIC_MAX_FILE_BYTES + 1], text[SIC_CHART_BYTES];
+    const uint16_t counts[3] = {1, 2, 1};
+    const uint32_t deadline = 20;
+    uint8_t records[40];
+    memcpy(records, plain, 20), memcpy(records + 20, plain, 20);
+    sic_written w = sic_write(counts, 3, records, sizeof records, file, sizeof file);
+    IS(w.refusal, 0), IS(w.length, 60);
+    sic_part part = sic_open(file, w.length, 1);
+    IS(part.refusal, 0), IS(part.start, 30), IS(part.length, 20);
+    part = sic_open(file, w.length, 3);
+    IS(part.refusal, SIC_OUT_OF_RANGE), IS(part.start, 0), IS(part.length, 0);
+    sic_reported r = sic_report(file, w.length, &deadline, 1, text, SIC_REPORT_BYTES);
+    IS(r.refusal, 0), IS(r.traces, 3), IS(r.length, 4 * 78 + strlen("3 of 3 deadlines met\n"));
+    r = sic_report(file, w.length, &deadline, 1, text, SIC_REPORT_BYTES - 1);
+    IS(r.refusal, 0), IS(r.traces, 3), IS(r.length, 0);
+    r = sic_report(file, 1, &deadline, 1, text, SIC_REPORT_BYTES);
+    IS(r.refusal, SIC_TOO_SHORT), IS(r.traces, 0), IS(r.length, 0);
+    IS(sic_chart(file, 1, text, SIC_CHART_BYTES), strlen("refused 2\n"));
+    IS(sic_chart(file, 1, text, SIC_CHART_BYTES - 1), 0);
+    w = sic_write(counts, 3, records, 30, file, sizeof file);
+    IS(w.refusal, SIC_WRONG_RECORDS), IS(w.length, 0);
+    IS(sic_open(file, SIC_MAX_FILE_BYTES, 0).refusal, SIC_WRONG_END);
+    IS(sic_open(file, SIC_MAX_FILE_BYTES + 1, 0).refusal, SIC_TOO_LONG);
+}
+
+static void limits(void) {
+    static uint8_t longest[10 * (SIC_MAX_INSTRUCTIONS + 1)];
+    for (size_t i = 0; i <= SIC_MAX_INSTRUCTIONS; i++) memcpy(longest + 10 * i, plain, 10);
+    IS(sic_check(longest, 10 * SIC_MAX_INSTRUCTIONS), 0);
+    IS(sic_check(longest, 10 * (SIC_MAX_INSTRUCTIONS + 1)), SIC_WRONG_LENGTH);
+}
+
+int main(void) {
+    same_state("at the start", sic_start(), (sic_state){0});
+    counts_fall();
+    all_move();
+    each_field_matters();
+    handed_back();
+    runs();
+    times();
+    records();
+    files();
+    limits();
+    if (differ == 0) printf("%u values of fields, each where include/sic.h has it\n", tried);
+    return differ != 0;
+}
