@@ -151,7 +151,7 @@ fn growth(n: usize, most: u64) {
 }
 
 fn main() {
-    println!("| call | trace of {N}, or as told | time | of the same in Rust | times faster than cycle after cycle |\n|---|---|---|---|---|");
+    println!("| call | trace of {N}, unless stated | time | of the same in Rust | times faster than cycle after cycle |\n|---|---|---|---|---|");
     random_calls("random, latencies to 8", 8, N);
     random_calls("random, latencies to 5,000", 5000, N);
     random_calls("random, 12 instructions", 8, SHORT);
