@@ -5,16 +5,19 @@ ghost use Prim.Native.Nat.{suc, _≤_};
 ghost use lib.Dec.{ltb, eqb};
 ghost use lib.ListN.{length};
 ghost use Rattle.machine.specs.Test.{_and_};
-ghost use Rattle.machine.specs.Instruction.{Trace, instruction};
+ghost use Rattle.machine.specs.Instruction.{Trace, instruction, miss};
 ghost use Rattle.machine.specs.Rules.{pre};
+ghost use Rattle.machine.specs.State.{orderly};
+ghost use Rattle.machine.specs.Time.{settle};
 ghost use Rattle.machine.proofs.Stages.{stageAt};
 ghost use Rattle.machine.proofs.BySlots.{heldBack, occupied, storeInMEM, leaves, slotAfter, stepBySlots};
 ghost use Rattle.record.specs.Rules.{instructionOf};
+ghost use Rattle.record.specs.Refusal.{_unless_};
 ghost use Rattle.record.specs.Body.{traceOf, lengthRefusal};
 ghost use Rattle.pipeline.specs.Reads.{Reads};
 ghost use Rattle.pipeline.specs.Bits.{bitsOf, pendingIn, opens, starts};
 ghost use Rattle.pipeline.specs.Standstill.{standstill};
-ghost use Rattle.pipeline.specs.Step.{stepAnswer};
+ghost use Rattle.pipeline.specs.Step.{notOrderly, onward, stepAnswer};
 use crate::hazards::held_back;
 use crate::hazards::pending_slots;
 use crate::moving::Bits;
@@ -29,6 +32,7 @@ use crate::reading::entry_MEM;
 use crate::reading::entry_ST;
 use crate::reading::less_one;
 use crate::reading::read_stages;
+use crate::reading::with_misses;
 use crate::refusal::NOT_ORDERLY;
 use machine::Slot;
 use machine::State;
@@ -191,7 +195,7 @@ fn all_stay(s: State) -> State
     }
 }
 
-pub(crate) fn cycle(n: u32, s: State, w: Standing) -> State
+fn cycle(n: u32, s: State, w: Standing) -> State
     requires { ⌜ s .fetched ≤ 4096 ⌝ }
     ensures { λ r. ⌜ ((trace : Trace) → Reads trace s w → length trace ≡ n → r ≡ stepBySlots trace s) ⌝ }
 {
@@ -205,25 +209,21 @@ pub(crate) fn cycle(n: u32, s: State, w: Standing) -> State
 }
 
 // How many instructions a body of lawful length holds.
-pub(crate) fn records(body: &[u8]) -> u32
+fn records(body: &[u8]) -> u32
     requires { ⌜ lengthRefusal (now body) ≡ 0 ⌝ }
     ensures { λ r. ⌜ (length (traceOf (now (body .entry))) ≡ r) × (r ≤ 4096) ⌝ }
 {
     (body.len() / RECORD_SIZE) as u32
 }
 
-pub fn step(body: &[u8], s: State) -> Stepped
-    ensures { λ r. ⌜ r ≡ stepAnswer (now (body .entry)) s ⌝ }
+// One cycle of the trace whose unknown flags are misses, from an orderly state; any other state is
+// refused.
+pub(crate) fn cycle_on(body: &[u8], s: State) -> Stepped
+    requires { ⌜ lengthRefusal (now body) ≡ 0 ⌝ }
+    ensures { λ r. ⌜ r ≡ onward (notOrderly unless orderly (settle miss (traceOf (now (body .entry)))) s) (settle miss (traceOf (now (body .entry)))) s ⌝ }
 {
-    let fault = settled_refusal(body);
-    if fault != 0 {
-        return Stepped {
-            refusal: fault,
-            state: s,
-        };
-    }
     let n = records(body);
-    let w = read_stages(body, s);
+    let w = with_misses(read_stages(body, s));
     if orderly(n, s, w) {
         return Stepped {
             refusal: 0,
@@ -234,4 +234,18 @@ pub fn step(body: &[u8], s: State) -> Stepped
         refusal: NOT_ORDERLY,
         state: s,
     }
+}
+
+// A body that Step accepts has no unknown flags.
+pub fn step(body: &[u8], s: State) -> Stepped
+    ensures { λ r. ⌜ r ≡ stepAnswer (now (body .entry)) s ⌝ }
+{
+    let fault = settled_refusal(body);
+    if fault != 0 {
+        return Stepped {
+            refusal: fault,
+            state: s,
+        };
+    }
+    cycle_on(body, s)
 }

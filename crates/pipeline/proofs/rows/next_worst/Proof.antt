@@ -1,42 +1,25 @@
--- `next_worst` meets its contract: on an orderly state the cycle by slots is the rules' cycle, of the trace whose unknown flags are misses.
-use mathlib.Core.Path.{_∙_}
-use native.Mathlib.Omega.{arith}
+-- `next_worst` meets its contract: an orderly state is not refused.
+use mathlib.Core.Path.{refl, sym, ap, _∙_}
 use Rattle.machine.specs.Instruction.{miss}
 use Rattle.machine.specs.Time.{settle}
-use Rattle.machine.proofs.Step.{step-by-slots}
+use Rattle.machine.proofs.Orderly.{orderly-is-tested}
 use Rattle.record.specs.Body.{traceOf}
 use Rattle.record.proofs.Accepted.{lawful-length}
-use Rattle.schedule.proofs.Settled.{length-settle}
+use Rattle.record.proofs.Refusals.{last-passes}
+use Rattle.pipeline.specs.declared.stepping.Stepped.{Stepped}
+use Rattle.pipeline.proofs.Answer.{stepped}
 use Rattle.pipeline.proofs.rows.next_worst.Statement.{statement}
 use Rattle.pipeline.proofs.rows.next_worst.Tie as tie
 
-read-stages-requires : tie.Need-read-stages-requires
-read-stages-requires c κs = tt
-
-with-misses-requires : tie.Need-with-misses-requires
-with-misses-requires c κs = tt
-
-records-requires : tie.Need-records-requires
-records-requires c κs = lawful-length _ (c .before .before .before .pre .0)
-
-cycle-requires : tie.Need-cycle-requires
-cycle-requires c κs =
-    let start = c .before .before .before .before in
-    let long = length-settle miss (traceOf (start .args .body .now)) in
-    let f = (start .pre .1) .fetched in
-    let e = c .records .ensures .0 in
-    let few = c .records .ensures .1 in
-    omega arith
+cycle-on-requires : tie.Need-cycle-on-requires
+cycle-on-requires c κs = lawful-length _ (c .before .pre .0)
 
 returns : tie.Need-returns
 returns c =
-    let start = c .before .before .before .before .before in
-    let a = start .args in
-    let trace = traceOf (a .body .now) in
-    let reads = c .before .before .with-misses .ensures trace (a .s) (c .before .before .before .read-stages .ensures) in
-    c .cycle .ensures (settle miss trace) reads (length-settle miss trace ∙ c .before .records .ensures .0)
-    ∙ step-by-slots (settle miss trace) (a .s) (start .pre .1)
+    let entry = c .before .before .before in
+    let trace = settle miss (traceOf (entry .args .body .now)) in
+    let s = entry .args .s in
+    ap (λ (r : Stepped). r .state) (c .before .cycle-on .ensures ∙ sym (stepped trace s (last-passes 12 (orderly-is-tested trace s .0 (entry .pre .1))) refl))
 
 pub next-worst-spec : {M : Type 1} → statement M
-next-worst-spec =
-    tie.close (tie.spec read-stages-requires with-misses-requires records-requires cycle-requires returns)
+next-worst-spec = tie.close (tie.spec cycle-on-requires returns)

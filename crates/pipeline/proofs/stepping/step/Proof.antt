@@ -1,13 +1,15 @@
--- `step` meets its contract: the refusals in their order; on an orderly state the cycle by slots is the rules' cycle.
-use mathlib.Core.Path.{sym, _∙_}
-use native.Mathlib.Omega.{arith}
-use Rattle.machine.proofs.Step.{step-by-slots}
-use Rattle.machine.proofs.Orderly.{orderly-is-tested}
+-- `step` meets its contract: the refusals in their order. A body that Step accepts has no unknown flags to take as misses.
+use Prim.Native.Nat.{ℕ}
+use mathlib.Core.Path.{sym, ap, _∙_}
+use Rattle.machine.specs.Instruction.{Trace, miss}
+use Rattle.machine.specs.State.{orderly}
+use Rattle.record.specs.Refusal.{_unless_}
 use Rattle.record.specs.Body.{traceOf}
 use Rattle.record.proofs.Accepted.{lawful-length, settled-accepted}
-use Rattle.record.proofs.Refusals.{stop, go-on, last-passes, last-fails}
-use Rattle.pipeline.specs.Step.{stepRefusal, stepAnswer}
-use Rattle.pipeline.proofs.Answer.{refused, stepped}
+use Rattle.record.proofs.Refusals.{stop, then-none}
+use Rattle.schedule.proofs.Settled.{settled-already}
+use Rattle.pipeline.specs.Step.{notOrderly, stepRefusal, onward, stepAnswer}
+use Rattle.pipeline.proofs.Answer.{refused}
 use Rattle.pipeline.proofs.stepping.step.Statement.{statement}
 use Rattle.pipeline.proofs.stepping.step.Tie as tie
 
@@ -18,57 +20,18 @@ returns : tie.Need-returns
 unfolding stepAnswer stepRefusal
 returns c = refused _ _ (stop _ (c .before .settled-refusal .ensures) (c .if1 .taken)) (c .if1 .taken)
 
-records-requires : tie.Need-records-requires
-records-requires c κs = lawful-length _ (settled-accepted _ (sym (c .before .settled-refusal .ensures) ∙ c .if1 .left))
-
-read-stages-requires : tie.Need-read-stages-requires
-read-stages-requires c κs = tt
-
-orderly-requires : tie.Need-orderly-requires
-orderly-requires c κs = tt
-
-cycle-requires : tie.Need-cycle-requires
-cycle-requires c κs =
-    let c3 = c .before .before .before in
-    let a = c3 .before .before .before .before .args in
-    let trace = traceOf (a .body .now) in
-    let n = c3 .records .ensures in
-    let t = sym (c .before .orderly .ensures trace (c .before .before .read-stages .ensures) (n .0)) ∙ c .if2 .taken in
-    let f = (orderly-is-tested trace (a .s) .1 t) .fetched in
-    let e = n .0 in
-    let few = n .1 in
-    omega arith
+cycle-on-requires : tie.Need-cycle-on-requires
+cycle-on-requires c κs = lawful-length _ (settled-accepted _ (sym (c .before .settled-refusal .ensures) ∙ c .if1 .left))
 
 returns-2 : tie.Need-returns-2
 unfolding stepAnswer stepRefusal
 returns-2 c =
-    let c4 = c .before .before .before .before in
-    let a = c4 .before .before .before .before .args in
-    let trace = traceOf (a .body .now) in
-    let reads = c .before .before .before .read-stages .ensures in
-    let long = c4 .records .ensures .0 in
-    let t = sym (c .before .before .orderly .ensures trace reads long) ∙ c .before .if2 .taken in
-    stepped _ _
-    (go-on (c4 .before .before .settled-refusal .ensures) (c4 .before .if1 .left) (last-passes 12 t))
-    (c .cycle .ensures trace reads long ∙ step-by-slots trace (a .s) (orderly-is-tested trace (a .s) .1 t))
-
-returns-3 : tie.Need-returns-3
-unfolding stepAnswer stepRefusal
-returns-3 c =
-    let c3 = c .before .before .before in
-    let a = c3 .before .before .before .before .args in
-    let t = sym (c .before .orderly .ensures (traceOf (a .body .now)) (c .before .before .read-stages .ensures) (c3 .records .ensures .0)) ∙ c .if2 .left in
-    refused _ _ (go-on (c3 .before .before .settled-refusal .ensures) (c3 .before .if1 .left) (last-fails 12 t)) (λ z. omega arith)
+    let known = c .before .before .before in
+    let a = known .before .args in
+    let none = sym (c .before .before .settled-refusal .ensures) ∙ c .before .if1 .left in
+    c .cycle-on .ensures
+    ∙ ap (λ (trace : Trace). onward (notOrderly unless orderly trace (a .s)) trace (a .s)) (settled-already miss (a .body .now) (λ n. known .shared-slice-known .given n .fits) none)
+    ∙ ap (λ (refusal : ℕ). onward refusal (traceOf (a .body .now)) (a .s)) (sym (then-none _ _ none))
 
 pub step-spec : {M : Type 1} → statement M
-step-spec =
-    tie.close
-    (tie.spec
-    settled-refusal-requires
-    returns
-    records-requires
-    read-stages-requires
-    orderly-requires
-    cycle-requires
-    returns-2
-    returns-3)
+step-spec = tie.close (tie.spec settled-refusal-requires returns cycle-on-requires returns-2)

@@ -1,0 +1,73 @@
+-- `cycle_on` meets its contract: on an orderly state the cycle by slots is the rules' cycle, of the trace whose unknown flags are misses.
+use mathlib.Core.Path.{sym, _∙_}
+use native.Mathlib.Omega.{arith}
+use Rattle.machine.specs.Instruction.{miss}
+use Rattle.machine.specs.Time.{settle}
+use Rattle.machine.proofs.Step.{step-by-slots}
+use Rattle.machine.proofs.Orderly.{orderly-is-tested}
+use Rattle.record.specs.Body.{traceOf}
+use Rattle.record.proofs.Refusals.{last-passes, last-fails}
+use Rattle.schedule.proofs.Settled.{length-settle}
+use Rattle.pipeline.proofs.Answer.{refused, stepped}
+use Rattle.pipeline.proofs.stepping.cycle_on.Statement.{statement}
+use Rattle.pipeline.proofs.stepping.cycle_on.Tie as tie
+
+records-requires : tie.Need-records-requires
+records-requires c κs = c .before .pre
+
+read-stages-requires : tie.Need-read-stages-requires
+read-stages-requires c κs = tt
+
+with-misses-requires : tie.Need-with-misses-requires
+with-misses-requires c κs = tt
+
+orderly-requires : tie.Need-orderly-requires
+orderly-requires c κs = tt
+
+cycle-requires : tie.Need-cycle-requires
+cycle-requires c κs =
+    let c4 = c .before .before .before .before in
+    let a = c4 .before .before .args in
+    let trace = traceOf (a .body .now) in
+    let n = c4 .records .ensures in
+    let reads = c .before .before .with-misses .ensures trace (a .s) (c .before .before .before .read-stages .ensures) in
+    let t = sym (c .before .orderly .ensures (settle miss trace) reads (length-settle miss trace ∙ n .0)) ∙ c .if1 .taken in
+    let f = (orderly-is-tested (settle miss trace) (a .s) .1 t) .fetched in
+    let long = length-settle miss trace in
+    let e = n .0 in
+    let few = n .1 in
+    omega arith
+
+returns : tie.Need-returns
+returns c =
+    let c5 = c .before .before .before .before .before in
+    let a = c5 .before .before .args in
+    let trace = traceOf (a .body .now) in
+    let reads = c .before .before .before .with-misses .ensures trace (a .s) (c .before .before .before .before .read-stages .ensures) in
+    let long = length-settle miss trace ∙ c5 .records .ensures .0 in
+    let t = sym (c .before .before .orderly .ensures (settle miss trace) reads long) ∙ c .before .if1 .taken in
+    stepped _ _
+    (last-passes 12 t)
+    (c .cycle .ensures (settle miss trace) reads long
+    ∙ step-by-slots (settle miss trace) (a .s) (orderly-is-tested (settle miss trace) (a .s) .1 t))
+
+returns-2 : tie.Need-returns-2
+returns-2 c =
+    let c4 = c .before .before .before .before in
+    let a = c4 .before .before .args in
+    let trace = traceOf (a .body .now) in
+    let reads = c .before .before .with-misses .ensures trace (a .s) (c .before .before .before .read-stages .ensures) in
+    let t = sym (c .before .orderly .ensures (settle miss trace) reads (length-settle miss trace ∙ c4 .records .ensures .0)) ∙ c .if1 .left in
+    refused _ _ (last-fails 12 t) (λ z. omega arith)
+
+pub cycle-on-spec : {M : Type 1} → statement M
+cycle-on-spec =
+    tie.close
+    (tie.spec
+    records-requires
+    read-stages-requires
+    with-misses-requires
+    orderly-requires
+    cycle-requires
+    returns
+    returns-2)
