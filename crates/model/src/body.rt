@@ -1,7 +1,7 @@
 // The rules of an instruction record, and the refusals 10, 8 and 11 of a body.
 use super::trace::BRANCH;
 use super::trace::LOAD;
-use super::trace::PLAIN;
+use super::trace::MOST;
 use super::trace::RECORD;
 use super::trace::REFUSED;
 use super::trace::STORE;
@@ -105,7 +105,7 @@ pub fn body_refusal(body: &[u8]) -> u32 {
     if body.len() % RECORD != 0 {
         return 10;
     }
-    if body.len() / RECORD > 4096 {
+    if body.len() / RECORD > MOST {
         return 10;
     }
     if some_breaks(body, 0) { 8 } else { 0 }

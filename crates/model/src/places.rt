@@ -1,6 +1,7 @@
-// Where the instructions of a trace stand: for each a stage and a remaining count.
+// Where the instructions of a trace stand: instruction i has its stage at index i of one lent array
+// and its remaining count at index i of another. Both have at least as many elements as the trace
+// has instructions.
 use super::trace::MOST;
-use super::trace::Trace;
 use super::trace::size;
 ghost use Prim.Native.Nat.{_<_, _≤_};
 
@@ -21,12 +22,6 @@ pub const WB: u8 = 6;
 
 pub const POST: u8 = 7;
 
-// Instruction i has its stage and its count at index i.
-pub struct Places {
-    pub stage: [u8; 16],
-    pub count: [u32; 16],
-}
-
 pub struct Place {
     pub stage: u8,
     pub count: u32,
@@ -39,29 +34,56 @@ pub struct Slot {
     pub count: u32,
 }
 
-// Everything in pre.
-pub fn start() -> Places {
-    Places {
-        stage: [PRE; 16],
-        count: [0; 16],
-    }
+fn stage_at(stages: &[u8], i: usize) -> u8 {
+    if i < stages.len() { stages[i] } else { PRE }
 }
 
-pub fn place_of(p: Places, i: usize) -> Place
-    requires { ⌜ i < 16 ⌝ }
-{
+fn count_at(counts: &[u32], i: usize) -> u32 {
+    if i < counts.len() { counts[i] } else { 0 }
+}
+
+// The place of instruction i.
+pub fn place_at(stages: &[u8], counts: &[u32], i: usize) -> Place {
     Place {
-        stage: p.stage[i],
-        count: p.count[i],
+        stage: stage_at(stages, i),
+        count: count_at(counts, i),
     }
 }
 
-fn all_in_post(stages: &[u8; 16], n: usize) -> bool
-    requires { ⌜ n ≤ 16 ⌝ }
-{
+fn put_stage(stages: &mut [u8], i: usize, stage: u8) {
+    if i < stages.len() {
+        stages[i] = stage;
+    }
+}
+
+fn put_count(counts: &mut [u32], i: usize, count: u32) {
+    if i < counts.len() {
+        counts[i] = count;
+    }
+}
+
+pub fn put(stages: &mut [u8], counts: &mut [u32], i: usize, at: Place) {
+    put_stage(stages, i, at.stage);
+    put_count(counts, i, at.count);
+}
+
+// "The starting state has everything in pre."
+pub fn start(body: &[u8], stages: &mut [u8], counts: &mut [u32]) {
+    let n = size(body);
     let mut i = 0;
     while i < n {
-        if stages[i] != POST {
+        put_stage(stages, i, PRE);
+        put_count(counts, i, 0);
+        i += 1;
+    }
+}
+
+// Every instruction has left, "that is, is in post".
+pub fn all_left(body: &[u8], stages: &[u8]) -> bool {
+    let n = size(body);
+    let mut i = 0;
+    while i < n {
+        if stage_at(stages, i) != POST {
             return false;
         }
         i += 1;
@@ -69,19 +91,12 @@ fn all_in_post(stages: &[u8; 16], n: usize) -> bool
     true
 }
 
-// Every instruction has left, "that is, is in post".
-pub fn all_left(t: Trace, p: Places) -> bool {
-    let n = size(t);
-    all_in_post(&p.stage, n)
-}
-
-// The first of n instructions that stands in a stage, MOST where none does.
-pub fn occupant(stages: &[u8; 16], n: usize, stage: u8) -> usize
-    requires { ⌜ n ≤ 16 ⌝ }
-{
+// The oldest instruction that stands in a stage, MOST where none does.
+fn occupant(body: &[u8], stages: &[u8], stage: u8) -> usize {
+    let n = size(body);
     let mut i = 0;
     while i < n {
-        if stages[i] == stage {
+        if stage_at(stages, i) == stage {
             return i;
         }
         i += 1;
@@ -90,14 +105,13 @@ pub fn occupant(stages: &[u8; 16], n: usize, stage: u8) -> usize
 }
 
 // The slot of a stage from IF to WB.
-pub fn in_stage(t: Trace, p: Places, stage: u8) -> Slot {
-    let n = size(t);
-    let i = occupant(&p.stage, n, stage);
+pub fn in_stage(body: &[u8], stages: &[u8], counts: &[u32], stage: u8) -> Slot {
+    let i = occupant(body, stages, stage);
     if i < MOST {
         return Slot {
             filled: true,
             index: i,
-            count: p.count[i],
+            count: count_at(counts, i),
         };
     }
     Slot {
@@ -113,20 +127,14 @@ fn one_past_pre(stage: u8) -> usize
     if stage == PRE { 0 } else { 1 }
 }
 
-fn past_pre(stages: &[u8; 16], n: usize) -> usize
-    requires { ⌜ n ≤ 16 ⌝ }
-{
+// The fetched count f: how many instructions are past pre.
+pub fn fetched(body: &[u8], stages: &[u8]) -> usize {
+    let n = size(body);
     let mut f = 0;
     let mut i = 0;
     while i < n {
-        f += one_past_pre(stages[i]);
+        f += one_past_pre(stage_at(stages, i));
         i += 1;
     }
     f
-}
-
-// The fetched count f: how many instructions are past pre.
-pub fn fetched(t: Trace, p: Places) -> usize {
-    let n = size(t);
-    past_pre(&p.stage, n)
 }

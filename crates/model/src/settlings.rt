@@ -1,11 +1,16 @@
 // The settlings of a trace, and the least and the greatest finishing time over all of them.
-use super::runs::finish;
+use super::runs::finish_in;
 use super::trace::HIT;
+use super::trace::Instruction;
 use super::trace::MISS;
-use super::trace::Trace;
+use super::trace::RECORD;
 use super::trace::UNKNOWN;
+use super::trace::byte;
+use super::trace::data_flag;
+use super::trace::fetch_flag;
+use super::trace::instruction_at;
 use super::trace::size;
-ghost use Prim.Native.Nat.{_≤_};
+ghost use Prim.Native.Nat.{_≤_, _<_};
 
 fn one_if_unknown(flag: u8) -> u32
     ensures { λ r. ⌜ r ≤ 1 ⌝ }
@@ -13,76 +18,115 @@ fn one_if_unknown(flag: u8) -> u32
     if flag == UNKNOWN { 1 } else { 0 }
 }
 
-fn unknown_among(flags: &[u8; 16], n: usize) -> u32
-    requires { ⌜ n ≤ 16 ⌝ }
-    ensures { λ r. ⌜ r ≤ 16 ⌝ }
+fn unknown_in(x: Instruction) -> u32
+    ensures { λ r. ⌜ r ≤ 2 ⌝ }
 {
+    one_if_unknown(x.fetch) + one_if_unknown(x.data)
+}
+
+// The number of unknown flags.
+pub fn unknowns(body: &[u8]) -> u32 {
+    let n = size(body);
     let mut found: u32 = 0;
     let mut i = 0;
     while i < n {
-        found += one_if_unknown(flags[i]);
+        found += unknown_in(instruction_at(body, i));
         i += 1;
     }
     found
 }
 
-// The number of unknown flags.
-pub fn unknowns(t: Trace) -> u32 {
-    let n = size(t);
-    let fetches = unknown_among(&t.fetch, n);
-    fetches + unknown_among(&t.data, n)
+fn made(flag: u8, to: u8) -> u8
+    requires { ⌜ (flag < 4) × (to < 4) ⌝ }
+    ensures { λ r. ⌜ r < 4 ⌝ }
+{
+    if flag == UNKNOWN { to } else { flag }
 }
 
-fn by_bit(bits: u32) -> u8 {
+// A record's flags with each unknown one made a hit or a miss.
+fn flags_made(flags: u8, fetch: u8, data: u8) -> u8
+    requires { ⌜ (fetch < 4) × («data» < 4) ⌝ }
+{
+    made(fetch_flag(flags), fetch) + 4 * made(data_flag(flags), data)
+}
+
+fn by_bit(bits: u32) -> u8
+    ensures { λ r. ⌜ r < 4 ⌝ }
+{
     if bits % 2 == 1 { MISS } else { HIT }
 }
 
-// The flags with the unknown ones settled, the lowest bit for the first of them.
-fn settled(flags: [u8; 16], n: usize, choice: u32) -> [u8; 16]
-    requires { ⌜ n ≤ 16 ⌝ }
+// The bits without the one that settled this flag, if one did.
+fn after(flag: u8, bits: u32) -> u32 {
+    if flag == UNKNOWN { bits / 2 } else { bits }
+}
+
+// Whether byte `at` of a body is a record's flags.
+fn is_flags(at: usize) -> bool {
+    at % RECORD == 1
+}
+
+// A byte of a body, settled by the bits that are left where it is a record's flags.
+fn settled_byte(b: u8, at: usize, bits: u32) -> u8 {
+    if !is_flags(at) {
+        return b;
+    }
+    let later = after(fetch_flag(b), bits);
+    flags_made(b, by_bit(bits), by_bit(later))
+}
+
+// The bits that are left after it.
+fn left_after(b: u8, at: usize, bits: u32) -> u32 {
+    if !is_flags(at) {
+        return bits;
+    }
+    after(data_flag(b), after(fetch_flag(b), bits))
+}
+
+fn put_byte(out: &mut [u8], at: usize, b: u8) {
+    if at < out.len() {
+        out[at] = b;
+    }
+}
+
+// One settling of an accepted body, at the start of `out`: bit b of `choice` makes the b-th unknown
+// flag a miss, and 0 there a hit. They are counted in the trace's order, the fetch before the data
+// access.
+pub fn settle(body: &[u8], choice: u32, out: &mut [u8]) {
+    let mut bits = choice;
+    let mut at = 0;
+    while at < body.len() {
+        let b = byte(body, at);
+        put_byte(out, at, settled_byte(b, at, bits));
+        bits = left_after(b, at, bits);
+        at += 1;
+    }
+}
+
+fn uniform_byte(b: u8, at: usize, flag: u8) -> u8
+    requires { ⌜ flag < 4 ⌝ }
 {
-    let mut settled = flags;
-    let mut bits = choice;
-    let mut i = 0;
-    while i < n {
-        if settled[i] == UNKNOWN {
-            settled[i] = by_bit(bits);
-            bits = bits / 2;
-        }
-        i += 1;
+    if is_flags(at) {
+        flags_made(b, flag, flag)
+    } else {
+        b
     }
-    settled
 }
 
-// A choice without its lowest bits, as many as `flags`.
-fn without(choice: u32, flags: u32) -> u32 {
-    let mut bits = choice;
-    let mut k: u32 = 0;
-    while k < flags {
-        bits = bits / 2;
-        k += 1;
+// The settling of an accepted body that makes every unknown flag the same, HIT or MISS.
+pub fn settle_all(body: &[u8], flag: u8, out: &mut [u8])
+    requires { ⌜ flag < 4 ⌝ }
+{
+    let mut at = 0;
+    while at < body.len() {
+        put_byte(out, at, uniform_byte(byte(body, at), at, flag));
+        at += 1;
     }
-    bits
 }
 
-// One settling: bit b of `choice` makes the b-th unknown flag a miss, and 0 there a hit. The
-// fetches are counted first, in the trace's order, and then the data accesses.
-pub fn settle(t: Trace, choice: u32) -> Trace {
-    let n = size(t);
-    let later = without(choice, unknown_among(&t.fetch, n));
-    let fetch = t.fetch;
-    let data = t.data;
-    let settled_fetch = settled(fetch, n, choice);
-    let settled_data = settled(data, n, later);
-    let mut s = t;
-    s.fetch = settled_fetch;
-    s.data = settled_data;
-    s
-}
-
-// The choice that makes each unknown flag a miss, and the last of all: a bit 1 for each.
-fn last_choice(t: Trace) -> u32 {
-    let flags = unknowns(t);
+// The last choice of all: a bit 1 for each unknown flag.
+fn last_choice(body: &[u8]) -> u32 {
+    let flags = unknowns(body);
     let mut choice: u32 = 0;
     let mut k: u32 = 0;
     while k < flags {
@@ -99,15 +143,30 @@ pub struct Times {
     pub worst: u32,
 }
 
-// Both over all settlings, each of which is run: twice as many for each unknown flag more.
-pub fn bounds(t: Trace) -> Times {
-    let last = last_choice(t);
-    let mut best = finish(settle(t, 0));
+// The finishing time of a settled body that stands at the start of `out`.
+fn settled_finish(out: &[u8], length: usize, stages: &mut [u8], counts: &mut [u32]) -> u32 {
+    if length <= out.len() {
+        return finish_in(&out[..length], stages, counts);
+    }
+    4294967295
+}
+
+// The finishing time of one settling.
+fn time_of(body: &[u8], choice: u32, out: &mut [u8], stages: &mut [u8], counts: &mut [u32]) -> u32 {
+    settle(body, choice, out);
+    settled_finish(out, body.len(), stages, counts)
+}
+
+// Best and worst over all settlings, each of which is run: twice as many for each unknown flag more.
+// The lent arrays have room for the settled body and for its places.
+pub fn bounds_in(body: &[u8], out: &mut [u8], stages: &mut [u8], counts: &mut [u32]) -> Times {
+    let last = last_choice(body);
+    let mut best = time_of(body, 0, out, stages, counts);
     let mut worst = best;
     let mut choice: u32 = 0;
     while choice < last {
         choice += 1;
-        let time = finish(settle(t, choice));
+        let time = time_of(body, choice, out, stages, counts);
         if time < best {
             best = time;
         }
@@ -118,10 +177,39 @@ pub fn bounds(t: Trace) -> Times {
     Times { best, worst }
 }
 
-pub fn best(t: Trace) -> u32 {
-    bounds(t).best
+// The same with arrays of its own.
+pub fn bounds(body: &[u8]) -> Times {
+    let mut out = [0u8; 40960];
+    let mut stages = [0u8; 4096];
+    let mut counts = [0u32; 4096];
+    bounds_in(body, &mut out, &mut stages, &mut counts)
 }
 
-pub fn worst(t: Trace) -> u32 {
-    bounds(t).worst
+// The finishing time with every unknown flag a hit, or every one a miss.
+pub fn finish_with_all(body: &[u8], flag: u8) -> u32
+    requires { ⌜ flag < 4 ⌝ }
+{
+    let mut out = [0u8; 40960];
+    let mut stages = [0u8; 4096];
+    let mut counts = [0u32; 4096];
+    settle_all(body, flag, &mut out);
+    settled_finish(&out, body.len(), &mut stages, &mut counts)
+}
+
+// For a trace with more unknown flags than can be settled one by one: the time of the settling with
+// hits alone, and of the one with misses alone. That they are best and worst is not told here.
+pub fn all_hits_all_misses(body: &[u8]) -> Times {
+    Times {
+        best: finish_with_all(body, HIT),
+        worst: finish_with_all(body, MISS),
+    }
+}
+
+// "Deadline minus worst, signed, 64 bits."
+pub fn margin(deadline: u32, worst: u32) -> i64 {
+    if worst <= deadline {
+        (deadline - worst) as i64
+    } else {
+        -((worst - deadline) as i64)
+    }
 }

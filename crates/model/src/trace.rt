@@ -1,7 +1,8 @@
-// A trace of at most sixteen instructions: the fields of its records as their bytes stand.
+// A trace is the bytes of its body: at most 4,096 records, whose fields are read where they stand.
 ghost use Prim.Native.Nat.{_≤_, _<_};
 
-pub const MOST: usize = 16;
+// Instructions of a trace.
+pub const MOST: usize = 4096;
 
 // Bytes of a record.
 pub const RECORD: usize = 10;
@@ -22,20 +23,6 @@ pub const UNKNOWN: u8 = 2;
 
 pub const REFUSED: u8 = 3;
 
-// Instruction i has its fields at index i of each array; from n on they mean nothing.
-pub struct Trace {
-    pub n: usize,
-    pub kind: [u8; 16],
-    pub fetch: [u8; 16],
-    pub data: [u8; 16],
-    pub first: [u8; 16],
-    pub second: [u8; 16],
-    pub target: [u8; 16],
-    pub execution: [u32; 16],
-    pub fetch_latency: [u32; 16],
-    pub data_latency: [u32; 16],
-}
-
 // The fields of one instruction.
 pub struct Instruction {
     pub kind: u8,
@@ -49,11 +36,12 @@ pub struct Instruction {
     pub data_latency: u32,
 }
 
-// The number of instructions, MOST where the trace names more.
-pub fn size(t: Trace) -> usize
-    ensures { λ r. ⌜ r ≤ 16 ⌝ }
+// The number of instructions: the whole records of a body, at most MOST.
+pub fn size(body: &[u8]) -> usize
+    ensures { λ r. ⌜ r ≤ 4096 ⌝ }
 {
-    if t.n < MOST { t.n } else { MOST }
+    let records = body.len() / RECORD;
+    if records < MOST { records } else { MOST }
 }
 
 // The byte at an index, 0 past the end.
@@ -78,35 +66,16 @@ pub fn pair(s: &[u8], at: usize) -> u32
     }
 }
 
-pub fn fetch_flag(flags: u8) -> u8 {
+pub fn fetch_flag(flags: u8) -> u8
+    ensures { λ r. ⌜ r < 4 ⌝ }
+{
     flags % 4
 }
 
-pub fn data_flag(flags: u8) -> u8 {
-    flags / 4 % 4
-}
-
-// The number of whole records, at most MOST.
-fn whole(body: &[u8]) -> usize
-    ensures { λ r. ⌜ r ≤ 16 ⌝ }
+pub fn data_flag(flags: u8) -> u8
+    ensures { λ r. ⌜ r < 4 ⌝ }
 {
-    let records = body.len() / RECORD;
-    if records < MOST { records } else { MOST }
-}
-
-fn nothing() -> Trace {
-    Trace {
-        n: 0,
-        kind: [PLAIN; 16],
-        fetch: [HIT; 16],
-        data: [HIT; 16],
-        first: [0; 16],
-        second: [0; 16],
-        target: [0; 16],
-        execution: [0; 16],
-        fetch_latency: [0; 16],
-        data_latency: [0; 16],
-    }
+    flags / 4 % 4
 }
 
 // The record that starts at an index of a body.
@@ -127,40 +96,9 @@ fn record(body: &[u8], at: usize) -> Instruction
     }
 }
 
-// The first MOST whole records of a body at most, whether or not they keep the rules.
-pub fn read(body: &[u8]) -> Trace {
-    let n = whole(body);
-    let mut t = nothing();
-    t.n = n;
-    let mut i = 0;
-    while i < n {
-        let x = record(body, i * RECORD);
-        t.kind[i] = x.kind;
-        t.fetch[i] = x.fetch;
-        t.data[i] = x.data;
-        t.first[i] = x.first;
-        t.second[i] = x.second;
-        t.target[i] = x.target;
-        t.execution[i] = x.execution;
-        t.fetch_latency[i] = x.fetch_latency;
-        t.data_latency[i] = x.data_latency;
-        i += 1;
-    }
-    t
-}
-
-pub fn instruction_at(t: Trace, i: usize) -> Instruction
-    requires { ⌜ i < 16 ⌝ }
+// Instruction i, whether or not its record keeps the rules.
+pub fn instruction_at(body: &[u8], i: usize) -> Instruction
+    requires { ⌜ i ≤ 4096 ⌝ }
 {
-    Instruction {
-        kind: t.kind[i],
-        fetch: t.fetch[i],
-        data: t.data[i],
-        first: t.first[i],
-        second: t.second[i],
-        target: t.target[i],
-        execution: t.execution[i],
-        fetch_latency: t.fetch_latency[i],
-        data_latency: t.data_latency[i],
-    }
+    record(body, i * RECORD)
 }

@@ -1,11 +1,10 @@
 // A case to a line: the letter says what is asked of the bytes.
-use super::chart;
 use super::input::byte;
 use super::input::find;
 use super::input::parse;
-use super::output::field;
-use super::output::last;
-use super::output::text;
+use model_drawing::field;
+use model_drawing::last;
+use model_drawing::text;
 ghost use Prim.Native.Nat.{_<_};
 
 pub fn lines(s: &[u8]) {
@@ -51,7 +50,7 @@ fn asked(letter: u8, bytes: &[u8]) {
         return write(bytes);
     }
     if letter == b'C' {
-        return chart::of_file(bytes);
+        return chart(bytes);
     }
     text(b": no such letter\n");
 }
@@ -59,12 +58,12 @@ fn asked(letter: u8, bytes: &[u8]) {
 // T: the finishing time of a settled body.
 fn time(body: &[u8]) {
     field(b": refusal ", model::settled_refusal(body));
-    last(b" time ", model::finish(model::read(body)));
+    last(b" time ", model::finish(body));
 }
 
 // S: the times over all settlings.
 fn times(body: &[u8]) {
-    let times = model::bounds(model::read(body));
+    let times = model::bounds(body);
     field(b": refusal ", model::body_refusal(body));
     field(b" best ", times.best);
     last(b" worst ", times.worst);
@@ -77,17 +76,15 @@ fn refusals(body: &[u8]) {
 }
 
 // The least number of cycles from the start after which instruction i is in post.
-fn leaves(body: &[u8], i: usize) -> u32
-    requires { ⌜ i < 16 ⌝ }
-{
-    let t = model::read(body);
-    let most = model::bound(t);
+fn leaves(body: &[u8], i: usize, stages: &mut [u8], counts: &mut [u32]) -> u32 {
+    model::start(body, stages, counts);
+    let most = model::bound(body);
     let mut cycles: u32 = 0;
     while cycles < most {
-        let places = model::run(t, cycles).places;
-        if places.stage[i] == model::POST {
+        if model::place_at(stages, counts, i).stage == model::POST {
             return cycles;
         }
+        model::cycle(body, stages, counts);
         cycles += 1;
     }
     most
@@ -95,8 +92,33 @@ fn leaves(body: &[u8], i: usize) -> u32
 
 // L: when the first two instructions leave.
 fn leaving(body: &[u8]) {
-    field(b": the first leaves at ", leaves(body, 0));
-    last(b", the second at ", leaves(body, 1));
+    let mut stages = [0u8; 16];
+    let mut counts = [0u32; 16];
+    field(
+        b": the first leaves at ",
+        leaves(body, 0, &mut stages, &mut counts),
+    );
+    last(
+        b", the second at ",
+        leaves(body, 1, &mut stages, &mut counts),
+    );
+}
+
+// C: the chart of a job file.
+fn chart(file: &[u8]) {
+    text(b"\n");
+    model_drawing::print_chart(file);
+}
+
+// Where Open finds a trace, or why it does not.
+pub fn opened(file: &[u8], trace: u32) {
+    let found = model::open(file, trace);
+    field(b": refusal ", found.refusal);
+    text(b" start ");
+    io::print_decimal(1, found.start as u64);
+    text(b" length ");
+    io::print_decimal(1, found.length as u64);
+    text(b"\n");
 }
 
 // O: a trace's number, and a job file.
@@ -104,13 +126,7 @@ fn open(bytes: &[u8]) {
     if bytes.len() == 0 {
         return;
     }
-    let opened = model::open(&bytes[1..], byte(bytes, 0) as u32);
-    field(b": refusal ", opened.refusal);
-    text(b" start ");
-    io::print_decimal(1, opened.start as u64);
-    text(b" length ");
-    io::print_decimal(1, opened.length as u64);
-    text(b"\n");
+    opened(&bytes[1..], byte(bytes, 0) as u32);
 }
 
 fn wide(b: u8) -> u16

@@ -1,5 +1,5 @@
 // Borders that take long bodies and files.
-use super::output::last;
+use model_drawing::last;
 
 // Ones for bytes make loads that keep the rules.
 fn bodies() {

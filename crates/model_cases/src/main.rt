@@ -1,11 +1,10 @@
 // Runs cases through the second model and prints a line of what it finds for each: the document's
 // worked cases, which stand in the file `stdin`, and those that are long or go by a rule. The file
 // `stdout` has what the document says.
-mod chart;
 mod commands;
+mod files;
 mod input;
 mod long;
-mod output;
 mod rows;
 
 fn main() {
@@ -13,5 +12,6 @@ fn main() {
     let n = io::read_full(0, &mut buf);
     commands::lines(&buf[..n]);
     rows::all();
+    files::all();
     long::all();
 }

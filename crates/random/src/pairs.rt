@@ -5,8 +5,8 @@ use crate::dice::rolled;
 use crate::dice::small;
 use crate::tally::more;
 use crate::traces::Draft;
-use model::Places;
-use model::Trace;
+use model::Instruction;
+use model::Place;
 ghost use Prim.Native.Nat.{_<_};
 
 // What is added to a flag: 1 where it was a hit and is to be a miss.
@@ -80,26 +80,27 @@ fn level(stage: u8) -> u8 {
     if stage == model::WB { model::ST } else { stage }
 }
 
-fn further(stage: u8, count: u32, than: u8, left: u32) -> bool {
-    if level(stage) == level(than) {
-        count < left
+fn further(at: Place, than: Place) -> bool {
+    if level(at.stage) == level(than.stage) {
+        at.count < than.count
     } else {
-        level(stage) > level(than)
+        level(at.stage) > level(than.stage)
     }
 }
 
-fn row_ordered(n: usize, first: Places, second: Places) -> bool {
+// No instruction is further on in the second row than in the first.
+fn row_ordered<'a>(
+    n: usize,
+    stages: &'a [u8],
+    counts: &'a [u32],
+    later_stages: &'a [u8],
+    later_counts: &'a [u32],
+) -> bool {
     let mut i = 0;
-    while i < 16 {
-        if i == n {
-            return true;
-        }
-        if further(
-            second.stage[i],
-            second.count[i],
-            first.stage[i],
-            first.count[i],
-        ) {
+    while i < n {
+        let first = model::place_at(stages, counts, i);
+        let second = model::place_at(later_stages, later_counts, i);
+        if further(second, first) {
             return false;
         }
         i += 1;
@@ -107,35 +108,67 @@ fn row_ordered(n: usize, first: Places, second: Places) -> bool {
     true
 }
 
-// In the first `cycles` rows no instruction is further on in the second trace.
-pub fn ordered(first: Trace, second: Trace, cycles: u32) -> bool {
-    let mut p = model::start();
-    let mut q = model::start();
+// In the first `cycles` rows no instruction is further on in the second trace; the places of both are
+// in lent arrays.
+fn ordered_in(
+    first: &[u8],
+    second: &[u8],
+    cycles: u32,
+    stages: &mut [u8],
+    counts: &mut [u32],
+    later_stages: &mut [u8],
+    later_counts: &mut [u32],
+) -> bool {
+    let n = model::size(first);
+    model::start(first, stages, counts);
+    model::start(second, later_stages, later_counts);
     let mut c = 0;
     while c < cycles {
-        if !row_ordered(first.n, p, q) {
+        if !row_ordered(n, stages, counts, later_stages, later_counts) {
             return false;
         }
-        p = model::cycle(first, p);
-        q = model::cycle(second, q);
+        model::cycle(first, stages, counts);
+        model::cycle(second, later_stages, later_counts);
         c += 1;
     }
-    row_ordered(first.n, p, q)
+    row_ordered(n, stages, counts, later_stages, later_counts)
+}
+
+pub fn ordered(first: &[u8], second: &[u8], cycles: u32) -> bool {
+    let mut stages = [0u8; 16];
+    let mut counts = [0u32; 16];
+    let mut later_stages = [0u8; 16];
+    let mut later_counts = [0u32; 16];
+    ordered_in(
+        first,
+        second,
+        cycles,
+        &mut stages,
+        &mut counts,
+        &mut later_stages,
+        &mut later_counts,
+    )
 }
 
 fn more_than(a: u32, b: u32) -> u64 {
     if a > b { (a - b) as u64 } else { 0 }
 }
 
+fn added_to(a: Instruction, b: Instruction) -> u64 {
+    let execution = more_than(b.execution, a.execution);
+    let fetch = more_than(b.fetch_latency, a.fetch_latency);
+    let access = more_than(b.data_latency, a.data_latency);
+    more(execution, more(fetch, access))
+}
+
 // What was added: the second's three latencies less the first's, over all instructions.
-pub fn added(first: Trace, second: Trace) -> u64 {
+pub fn added(first: &[u8], second: &[u8]) -> u64 {
+    let n = model::size(first);
     let mut sum = 0;
     let mut i = 0;
-    while i < 16 {
-        let execution = more_than(second.execution[i], first.execution[i]);
-        let fetch = more_than(second.fetch_latency[i], first.fetch_latency[i]);
-        let access = more_than(second.data_latency[i], first.data_latency[i]);
-        sum = more(sum, more(execution, more(fetch, access)));
+    while i < n {
+        let a = model::instruction_at(first, i);
+        sum = more(sum, added_to(a, model::instruction_at(second, i)));
         i += 1;
     }
     sum

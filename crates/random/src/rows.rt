@@ -2,8 +2,7 @@
 // model's places cycle after cycle.
 use machine::Slot;
 use machine::State;
-use model::Places;
-use model::Trace;
+use pipeline::Stepped;
 use pipeline::step;
 use running::run;
 
@@ -13,34 +12,42 @@ pub struct Compared {
     pub agree: bool,
 }
 
-fn same_slot(s: Slot, t: Trace, p: Places, stage: u8) -> bool {
-    let m = model::in_stage(t, p, stage);
+fn same_slot<'a>(s: Slot, body: &'a [u8], stages: &'a [u8], counts: &'a [u32], stage: u8) -> bool {
+    let m = model::in_stage(body, stages, counts, stage);
     s.filled == m.filled && s.index as usize == m.index && s.count == m.count
 }
 
-pub fn same_state(s: State, t: Trace, p: Places) -> bool {
-    if s.fetched as usize != model::fetched(t, p) {
+pub fn same_state<'a>(s: State, body: &'a [u8], stages: &'a [u8], counts: &'a [u32]) -> bool {
+    if s.fetched as usize != model::fetched(body, stages) {
         return false;
     }
-    let front = same_slot(s.IF, t, p, model::IF) && same_slot(s.ID, t, p, model::ID);
-    let middle = same_slot(s.EX, t, p, model::EX) && same_slot(s.MEM, t, p, model::MEM);
-    front && middle && same_slot(s.ST, t, p, model::ST) && same_slot(s.WB, t, p, model::WB)
+    same_slot(s.IF, body, stages, counts, model::IF)
+        && same_slot(s.ID, body, stages, counts, model::ID)
+        && same_slot(s.EX, body, stages, counts, model::EX)
+        && same_slot(s.MEM, body, stages, counts, model::MEM)
+        && same_slot(s.ST, body, stages, counts, model::ST)
+        && same_slot(s.WB, body, stages, counts, model::WB)
 }
 
 // The row after `cycle` cycles by Run; past the finishing time the run stops there.
-fn row_agrees(body: &[u8], cycle: u32, finish: u32, t: Trace, p: Places) -> bool {
+fn row_agrees<'a>(
+    cycle: u32,
+    finish: u32,
+    body: &'a [u8],
+    stages: &'a [u8],
+    counts: &'a [u32],
+) -> bool {
     let ran = run(body, cycle);
     let cycles = if cycle < finish { cycle } else { finish };
     ran.refusal == 0
         && ran.cycles == cycles
-        && ran.left == model::all_left(t, p)
-        && same_state(ran.state, t, p)
+        && ran.left == model::all_left(body, stages)
+        && same_state(ran.state, body, stages, counts)
 }
 
-// Step of the row is the next row.
-fn step_agrees(body: &[u8], s: State, t: Trace, p: Places) -> bool {
-    let stepped = step(body, s);
-    stepped.refusal == 0 && same_state(stepped.state, t, p)
+// What Step made of a row is the next row.
+fn step_agrees<'a>(next: Stepped, body: &'a [u8], stages: &'a [u8], counts: &'a [u32]) -> bool {
+    next.refusal == 0 && same_state(next.state, body, stages, counts)
 }
 
 // How many rows Step makes of a trace, of which a million is never reached.
@@ -51,29 +58,34 @@ fn stepped_rows(finish: u32) -> u32 {
     1000000
 }
 
-// Rows 0 to one past the finishing time.
-pub fn rows(body: &[u8], finish: u32) -> Compared {
-    let t = model::read(body);
-    let mut p = model::start();
+// Rows 0 to one past the finishing time, each by Run, and each but the first by Step of the one
+// before.
+fn rows_in(body: &[u8], finish: u32, stages: &mut [u8], counts: &mut [u32]) -> Compared {
+    model::start(body, stages, counts);
     let mut s = State::start();
     let end = stepped_rows(finish);
     let mut cycle = 0;
     while cycle < end {
-        let q = model::cycle(t, p);
-        let row = row_agrees(body, cycle, finish, t, p);
-        if !row || !step_agrees(body, s, t, q) {
+        let row = row_agrees(cycle, finish, body, stages, counts);
+        let next = step(body, s);
+        model::cycle(body, stages, counts);
+        if !row || !step_agrees(next, body, stages, counts) {
             return Compared {
                 compared: cycle,
                 agree: false,
             };
         }
-        let next = step(body, s);
         s = next.state;
-        p = q;
         cycle += 1;
     }
     Compared {
         compared: cycle,
-        agree: row_agrees(body, cycle, finish, t, p),
+        agree: row_agrees(cycle, finish, body, stages, counts),
     }
+}
+
+pub fn rows(body: &[u8], finish: u32) -> Compared {
+    let mut stages = [0u8; 16];
+    let mut counts = [0u32; 16];
+    rows_in(body, finish, &mut stages, &mut counts)
 }

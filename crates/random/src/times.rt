@@ -1,8 +1,24 @@
 // Finishing times, best and worst, margins and likeness against the model's.
+use model::Times;
 use timing::alike;
 use timing::best_worst;
 use timing::finish;
 use timing::margin;
+
+// The model's finishing time of a trace of at most 12 instructions.
+pub fn model_finish(body: &[u8]) -> u32 {
+    let mut stages = [0u8; 16];
+    let mut counts = [0u32; 16];
+    model::finish_in(body, &mut stages, &mut counts)
+}
+
+// Its best and worst time, over all settlings.
+pub fn model_bounds(body: &[u8]) -> Times {
+    let mut settled = [0u8; 160];
+    let mut stages = [0u8; 16];
+    let mut counts = [0u32; 16];
+    model::bounds_in(body, &mut settled, &mut stages, &mut counts)
+}
 
 pub fn finish_agrees(body: &[u8], time: u32) -> bool {
     let answer = finish(body);
@@ -15,13 +31,9 @@ pub fn bounds_agree(body: &[u8], best: u32, worst: u32) -> bool {
     answer.refusal == 0 && answer.best == best && answer.worst == worst
 }
 
-fn difference(a: u32, b: u32) -> i64 {
-    a as i64 - b as i64
-}
-
 pub fn margin_agrees(body: &[u8], worst: u32, deadline: u32) -> bool {
     let answer = margin(body, deadline);
-    answer.refusal == 0 && answer.margin == difference(deadline, worst)
+    answer.refusal == 0 && answer.margin == model::margin(deadline, worst)
 }
 
 pub fn likeness_agrees(first: &[u8], second: &[u8], equal: bool) -> bool {

@@ -22,6 +22,8 @@ use crate::times::bounds_agree;
 use crate::times::finish_agrees;
 use crate::times::likeness_agrees;
 use crate::times::margin_agrees;
+use crate::times::model_bounds;
+use crate::times::model_finish;
 use crate::traces::Draft;
 ghost use Prim.Native.Nat.{_<_};
 
@@ -31,7 +33,7 @@ pub fn length_of(draft: Draft) -> usize {
 
 // Every row and the finishing time of a trace without unknown flags.
 fn rows_turn(body: &[u8], tally: Tally) -> Tally {
-    let time = model::finish(model::read(body));
+    let time = model_finish(body);
     let seen = rows(body, time);
     let mut t = held(held(tally, finish_agrees(body, time)), seen.agree);
     t.finishes = more(t.finishes, 1);
@@ -62,12 +64,10 @@ fn margin_turn(body: &[u8], worst: u32, d: Dice, tally: Tally) -> Tally {
 
 // The order and, where only latencies differ, the sum bound; likeness of the two.
 fn pair_turn(body: &[u8], second: &[u8], flags: bool, tally: Tally) -> Tally {
-    let a = model::read(body);
-    let b = model::read(second);
-    let early = model::finish(a);
-    let late = model::finish(b);
-    let order = early <= late && ordered(a, b, late);
-    let sum = flags || late as u64 <= more(early as u64, added(a, b));
+    let early = model_finish(body);
+    let late = model_finish(second);
+    let order = early <= late && ordered(body, second, late);
+    let sum = flags || late as u64 <= more(early as u64, added(body, second));
     let mut t = held(
         held(held(tally, order), sum),
         likeness_agrees(body, second, early == late),
@@ -89,7 +89,7 @@ pub fn settled_turn(draft: Draft, tally: Tally) -> Tally {
     let all: &[u8] = &other;
     let second = first(all, n);
     let t = rows_turn(second, rows_turn(body, tally));
-    let worst = model::finish(model::read(second));
+    let worst = model_finish(second);
     margin_turn(second, worst, draft.dice, pair_turn(body, second, flags, t))
 }
 
@@ -111,12 +111,11 @@ pub fn unknown_turn(draft: Draft, tally: Tally) -> Tally {
     let bytes = draft.bytes;
     let whole: &[u8] = &bytes;
     let body = first(whole, n);
-    let trace = model::read(body);
-    let unknown = model::unknowns(trace);
+    let unknown = model::unknowns(body);
     if unknown > 6 {
         return tally;
     }
-    let times = model::bounds(trace);
+    let times = model_bounds(body);
     let mut t = held(tally, bounds_agree(body, times.best, times.worst));
     t.bounds = more(t.bounds, 1);
     t.settlings = more(t.settlings, settlings_of(unknown));

@@ -5,16 +5,19 @@ use Rattle.model.proofs.places.occupant.Statement.{statement}
 use Rattle.model.proofs.places.occupant.Tie as tie
 
 abbrev Inv-loop : tie.InvT-loop
-Inv-loop stages n stage i₀ i = i ≤ n
+Inv-loop body stages stage n i₀ i = i ≤ n
 
 abbrev μ-loop : tie.MeasureT-loop
-μ-loop stages n stage i₀ i = n - i
+μ-loop body stages stage n i₀ i = n - i
+
+size-requires : tie.Need-size-requires Inv-loop μ-loop
+size-requires c κs = tt
 
 loop-holds : tie.Need-loop-holds Inv-loop μ-loop
 loop-holds c = omega arith
 
-element-copy-out-if1 : tie.Need-element-copy-out-if1 Inv-loop μ-loop
-element-copy-out-if1 c = omega arith
+stage-at-requires : tie.Need-stage-at-requires Inv-loop μ-loop
+stage-at-requires c κs = tt
 
 returns : tie.Need-returns Inv-loop μ-loop
 returns c = tt
@@ -37,8 +40,9 @@ occupant-spec =
     (tie.spec
     Inv-loop
     μ-loop
+    size-requires
     loop-holds
-    element-copy-out-if1
+    stage-at-requires
     returns
     add-i
     loop-less

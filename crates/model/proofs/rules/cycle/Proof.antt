@@ -1,47 +1,34 @@
 -- `model::rules::cycle` is safe and ends. Assumes nothing.
 use Prim.Native.Nat.{_≤_, _-_}
 use native.Mathlib.Omega.{arith}
+use mathlib.Core.Path.{_≡_}
+use lib.ListN.{length}
 use Rattle.model.proofs.rules.cycle.Statement.{statement}
 use Rattle.model.proofs.rules.cycle.Tie as tie
 
 abbrev Inv-loop : tie.InvT-loop
-Inv-loop t p n ready free q₀ i₀ q i = i ≤ n
+Inv-loop body stages₀ counts₀ free n older₀ i₀ stages counts older i = (n ≤ 4096) × ((i ≤ n) × ((length stages ≡ length stages₀) × (length counts ≡ length counts₀)))
 
 abbrev μ-loop : tie.MeasureT-loop
-μ-loop t p n ready free q₀ i₀ q i = n - i
+μ-loop body stages₀ counts₀ free n older₀ i₀ stages counts older i = n - i
 
-size-requires : tie.Need-size-requires Inv-loop μ-loop
-size-requires c κs = tt
-
-all-ready-requires : tie.Need-all-ready-requires Inv-loop μ-loop
-all-ready-requires c κs = tt
+all-standing-requires : tie.Need-all-standing-requires Inv-loop μ-loop
+all-standing-requires c κs = tt
 
 all-free-requires : tie.Need-all-free-requires Inv-loop μ-loop
 all-free-requires c κs = tt
 
+size-requires : tie.Need-size-requires Inv-loop μ-loop
+size-requires c κs = tt
+
+none-requires : tie.Need-none-requires Inv-loop μ-loop
+none-requires c κs = tt
+
 loop-holds : tie.Need-loop-holds Inv-loop μ-loop
 loop-holds c = omega arith
 
-instruction-at-requires : tie.Need-instruction-at-requires Inv-loop μ-loop
-instruction-at-requires c κs = omega arith
-
-place-of-requires : tie.Need-place-of-requires Inv-loop μ-loop
-place-of-requires c κs = omega arith
-
-array-read-advanced : tie.Need-array-read-advanced Inv-loop μ-loop
-array-read-advanced c = omega arith
-
-advanced-requires : tie.Need-advanced-requires Inv-loop μ-loop
-advanced-requires c κs = tt
-
-element-write-q : tie.Need-element-write-q Inv-loop μ-loop
-element-write-q c = omega arith
-
-mul-q : tie.Need-mul-q Inv-loop μ-loop
-mul-q c = omega arith
-
-element-write-q-2 : tie.Need-element-write-q-2 Inv-loop μ-loop
-element-write-q-2 c = omega arith
+move-one-requires : tie.Need-move-one-requires Inv-loop μ-loop
+move-one-requires c κs = omega arith
 
 add-i : tie.Need-add-i Inv-loop μ-loop
 add-i c = omega arith
@@ -52,6 +39,12 @@ loop-less c = omega arith
 loop-again : tie.Need-loop-again Inv-loop μ-loop
 loop-again c = omega arith
 
+same-length : tie.Need-same-length Inv-loop μ-loop
+same-length c = omega arith
+
+same-length-2 : tie.Need-same-length-2 Inv-loop μ-loop
+same-length-2 c = omega arith
+
 returns : tie.Need-returns Inv-loop μ-loop
 returns c = tt
 
@@ -61,18 +54,15 @@ cycle-spec =
     (tie.spec
     Inv-loop
     μ-loop
-    size-requires
-    all-ready-requires
+    all-standing-requires
     all-free-requires
+    size-requires
+    none-requires
     loop-holds
-    instruction-at-requires
-    place-of-requires
-    array-read-advanced
-    advanced-requires
-    element-write-q
-    mul-q
-    element-write-q-2
+    move-one-requires
     add-i
     loop-less
     loop-again
+    same-length
+    same-length-2
     returns)

@@ -1,14 +1,16 @@
 -- `model::runs::run` is safe and ends. Assumes nothing.
 use Prim.Native.Nat.{_≤_, _-_}
 use native.Mathlib.Omega.{arith}
+use mathlib.Core.Path.{_≡_}
+use lib.ListN.{length}
 use Rattle.model.proofs.runs.run.Statement.{statement}
 use Rattle.model.proofs.runs.run.Tie as tie
 
 abbrev Inv-loop : tie.InvT-loop
-Inv-loop t limit p₀ cycles₀ p cycles = cycles ≤ limit
+Inv-loop body limit stages₀ counts₀ cycles₀ stages counts cycles = (cycles ≤ limit) × ((length stages ≡ length stages₀) × (length counts ≡ length counts₀))
 
 abbrev μ-loop : tie.MeasureT-loop
-μ-loop t limit p₀ cycles₀ p cycles = limit - cycles
+μ-loop body limit stages₀ counts₀ cycles₀ stages counts cycles = limit - cycles
 
 start-requires : tie.Need-start-requires Inv-loop μ-loop
 start-requires c κs = tt
@@ -18,6 +20,12 @@ loop-holds c = omega arith
 
 all-left-requires : tie.Need-all-left-requires Inv-loop μ-loop
 all-left-requires c κs = tt
+
+same-length : tie.Need-same-length Inv-loop μ-loop
+same-length c = omega arith
+
+same-length-2 : tie.Need-same-length-2 Inv-loop μ-loop
+same-length-2 c = omega arith
 
 returns : tie.Need-returns Inv-loop μ-loop
 returns c = tt
@@ -37,6 +45,12 @@ loop-again c = omega arith
 all-left-requires-2 : tie.Need-all-left-requires-2 Inv-loop μ-loop
 all-left-requires-2 c κs = tt
 
+same-length-3 : tie.Need-same-length-3 Inv-loop μ-loop
+same-length-3 c = omega arith
+
+same-length-4 : tie.Need-same-length-4 Inv-loop μ-loop
+same-length-4 c = omega arith
+
 returns-2 : tie.Need-returns-2 Inv-loop μ-loop
 returns-2 c = tt
 
@@ -49,10 +63,14 @@ run-spec =
     start-requires
     loop-holds
     all-left-requires
+    same-length
+    same-length-2
     returns
     cycle-requires
     add-cycles
     loop-less
     loop-again
     all-left-requires-2
+    same-length-3
+    same-length-4
     returns-2)

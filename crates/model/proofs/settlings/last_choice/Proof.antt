@@ -5,10 +5,10 @@ use Rattle.model.proofs.settlings.last_choice.Statement.{statement}
 use Rattle.model.proofs.settlings.last_choice.Tie as tie
 
 abbrev Inv-loop : tie.InvT-loop
-Inv-loop flags choice₀ k₀ choice k = k ≤ flags
+Inv-loop body flags choice₀ k₀ choice k = k ≤ flags
 
 abbrev μ-loop : tie.MeasureT-loop
-μ-loop flags choice₀ k₀ choice k = flags - k
+μ-loop body flags choice₀ k₀ choice k = flags - k
 
 unknowns-requires : tie.Need-unknowns-requires Inv-loop μ-loop
 unknowns-requires c κs = tt

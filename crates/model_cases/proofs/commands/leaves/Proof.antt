@@ -1,17 +1,19 @@
 -- `model_cases::commands::leaves` is safe and ends. Assumes nothing.
 use Prim.Native.Nat.{_≤_, _-_}
 use native.Mathlib.Omega.{arith}
+use mathlib.Core.Path.{_≡_}
+use lib.ListN.{length}
 use Rattle.model_cases.proofs.commands.leaves.Statement.{statement}
 use Rattle.model_cases.proofs.commands.leaves.Tie as tie
 
 abbrev Inv-loop : tie.InvT-loop
-Inv-loop body i t most cycles₀ cycles = cycles ≤ most
+Inv-loop body i stages₀ counts₀ most cycles₀ stages counts cycles = (cycles ≤ most) × ((length stages ≡ length stages₀) × (length counts ≡ length counts₀))
 
 abbrev μ-loop : tie.MeasureT-loop
-μ-loop body i t most cycles₀ cycles = most - cycles
+μ-loop body i stages₀ counts₀ most cycles₀ stages counts cycles = most - cycles
 
-read-requires : tie.Need-read-requires Inv-loop μ-loop
-read-requires c κs = tt
+start-requires : tie.Need-start-requires Inv-loop μ-loop
+start-requires c κs = tt
 
 bound-requires : tie.Need-bound-requires Inv-loop μ-loop
 bound-requires c κs = tt
@@ -19,14 +21,20 @@ bound-requires c κs = tt
 loop-holds : tie.Need-loop-holds Inv-loop μ-loop
 loop-holds c = omega arith
 
-run-requires : tie.Need-run-requires Inv-loop μ-loop
-run-requires c κs = tt
+place-at-requires : tie.Need-place-at-requires Inv-loop μ-loop
+place-at-requires c κs = tt
 
-element-copy-out-if1 : tie.Need-element-copy-out-if1 Inv-loop μ-loop
-element-copy-out-if1 c = omega arith
+same-length : tie.Need-same-length Inv-loop μ-loop
+same-length c = omega arith
+
+same-length-2 : tie.Need-same-length-2 Inv-loop μ-loop
+same-length-2 c = omega arith
 
 returns : tie.Need-returns Inv-loop μ-loop
 returns c = tt
+
+cycle-requires : tie.Need-cycle-requires Inv-loop μ-loop
+cycle-requires c κs = tt
 
 add-cycles : tie.Need-add-cycles Inv-loop μ-loop
 add-cycles c = omega arith
@@ -37,6 +45,12 @@ loop-less c = omega arith
 loop-again : tie.Need-loop-again Inv-loop μ-loop
 loop-again c = omega arith
 
+same-length-3 : tie.Need-same-length-3 Inv-loop μ-loop
+same-length-3 c = omega arith
+
+same-length-4 : tie.Need-same-length-4 Inv-loop μ-loop
+same-length-4 c = omega arith
+
 returns-2 : tie.Need-returns-2 Inv-loop μ-loop
 returns-2 c = tt
 
@@ -46,13 +60,17 @@ leaves-spec =
     (tie.spec
     Inv-loop
     μ-loop
-    read-requires
+    start-requires
     bound-requires
     loop-holds
-    run-requires
-    element-copy-out-if1
+    place-at-requires
+    same-length
+    same-length-2
     returns
+    cycle-requires
     add-cycles
     loop-less
     loop-again
+    same-length-3
+    same-length-4
     returns-2)

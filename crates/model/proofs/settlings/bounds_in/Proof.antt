@@ -1,0 +1,74 @@
+-- `model::settlings::bounds_in` is safe and ends. Assumes nothing.
+use Prim.Native.Nat.{_≤_, _-_}
+use native.Mathlib.Omega.{arith}
+use lib.ListN.{length}
+use mathlib.Core.Path.{_≡_}
+use Rattle.model.proofs.settlings.bounds_in.Statement.{statement}
+use Rattle.model.proofs.settlings.bounds_in.Tie as tie
+
+abbrev Inv-loop : tie.InvT-loop
+Inv-loop body out₀ stages₀ counts₀ last best₀ worst₀ choice₀ out stages counts best worst choice =
+    (choice ≤ last)
+    × ((length out ≡ length out₀) × ((length stages ≡ length stages₀) × (length counts ≡ length counts₀)))
+
+abbrev μ-loop : tie.MeasureT-loop
+μ-loop body out₀ stages₀ counts₀ last best₀ worst₀ choice₀ out stages counts best worst choice = last - choice
+
+last-choice-requires : tie.Need-last-choice-requires Inv-loop μ-loop
+last-choice-requires c κs = tt
+
+time-of-requires : tie.Need-time-of-requires Inv-loop μ-loop
+time-of-requires c κs = tt
+
+loop-holds : tie.Need-loop-holds Inv-loop μ-loop
+loop-holds c = omega arith
+
+add-choice : tie.Need-add-choice Inv-loop μ-loop
+add-choice c = omega arith
+
+time-of-requires-2 : tie.Need-time-of-requires-2 Inv-loop μ-loop
+time-of-requires-2 c κs = tt
+
+loop-less : tie.Need-loop-less Inv-loop μ-loop
+loop-less c = omega arith
+
+loop-again : tie.Need-loop-again Inv-loop μ-loop
+loop-again c = omega arith
+
+loop-less-2 : tie.Need-loop-less-2 Inv-loop μ-loop
+loop-less-2 c = omega arith
+
+loop-again-2 : tie.Need-loop-again-2 Inv-loop μ-loop
+loop-again-2 c = omega arith
+
+same-length : tie.Need-same-length Inv-loop μ-loop
+same-length c = omega arith
+
+same-length-2 : tie.Need-same-length-2 Inv-loop μ-loop
+same-length-2 c = omega arith
+
+same-length-3 : tie.Need-same-length-3 Inv-loop μ-loop
+same-length-3 c = omega arith
+
+returns : tie.Need-returns Inv-loop μ-loop
+returns c = tt
+
+pub bounds-in-spec : {M : Type 1} → statement M
+bounds-in-spec =
+    tie.close
+    (tie.spec
+    Inv-loop
+    μ-loop
+    last-choice-requires
+    time-of-requires
+    loop-holds
+    add-choice
+    time-of-requires-2
+    loop-less
+    loop-again
+    loop-less-2
+    loop-again-2
+    same-length
+    same-length-2
+    same-length-3
+    returns)

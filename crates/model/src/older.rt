@@ -1,0 +1,107 @@
+// When an instruction is ready, and what the rules ask for that of the instructions before it in
+// the trace: "older" means earlier in the trace.
+use super::places::EX;
+use super::places::ID;
+use super::places::MEM;
+use super::places::PRE;
+use super::places::Place;
+use super::places::ST;
+use super::sets::has;
+use super::sets::with;
+use super::trace::BRANCH;
+use super::trace::HIT;
+use super::trace::Instruction;
+use super::trace::LOAD;
+use super::trace::MISS;
+use super::trace::STORE;
+
+// Whether some older one is in pre, some older branch is short of (EX, 0), some older load short of
+// (MEM, 0), some older store short of (ST, 0); and the target registers of those loads.
+pub struct Older {
+    pub in_pre: bool,
+    pub branch: bool,
+    pub load: bool,
+    pub store: bool,
+    pub targets: u32,
+}
+
+pub fn none() -> Older {
+    Older {
+        in_pre: false,
+        branch: false,
+        load: false,
+        store: false,
+        targets: 0,
+    }
+}
+
+// "Further means a later stage, or the same stage with a smaller count. Short of (s, c) means that
+// (s, c), a stage and a count, is further." Here c is 0.
+fn short_of(at: Place, s: u8) -> bool {
+    if at.stage == s {
+        at.count > 0
+    } else {
+        at.stage < s
+    }
+}
+
+// What is asked of the older ones, with x, which stands at `at`, one of them.
+pub fn one_more(older: Older, x: Instruction, at: Place) -> Older {
+    let mut o = older;
+    if at.stage == PRE {
+        o.in_pre = true;
+    }
+    if x.kind == BRANCH && short_of(at, EX) {
+        o.branch = true;
+    }
+    if x.kind == LOAD && short_of(at, MEM) {
+        o.load = true;
+        o.targets = with(o.targets, x.target);
+    }
+    if x.kind == STORE && short_of(at, ST) {
+        o.store = true;
+    }
+    o
+}
+
+// "In pre it is ready when no older one is in pre, no older branch is short of (EX, 0), and its
+// fetch hits or no older load is short of (MEM, 0) and no older store short of (ST, 0)."
+fn ready_in_pre(fetch: u8, older: Older) -> bool {
+    if older.in_pre || older.branch {
+        return false;
+    }
+    fetch == HIT || (!older.load && !older.store)
+}
+
+// A register other than 0 is the target of an older load short of (MEM, 0).
+fn awaited(register: u8, targets: u32) -> bool {
+    register != 0 && has(targets, register)
+}
+
+// "In ID it is ready when no older load short of (MEM, 0) has as target one of its sources other
+// than register 0."
+fn ready_in_id(first: u8, second: u8, targets: u32) -> bool {
+    !awaited(first, targets) && !awaited(second, targets)
+}
+
+// "In EX a load or store with a data miss is ready when no older store is short of (ST, 0)."
+fn ready_in_ex(kind: u8, data: u8, older_store: bool) -> bool {
+    if kind != LOAD && kind != STORE {
+        return true;
+    }
+    data != MISS || !older_store
+}
+
+// Whether x, which stands in this stage, is ready. "Elsewhere it is always ready."
+pub fn ready(x: Instruction, stage: u8, older: Older) -> bool {
+    if stage == PRE {
+        return ready_in_pre(x.fetch, older);
+    }
+    if stage == ID {
+        return ready_in_id(x.first, x.second, older.targets);
+    }
+    if stage == EX {
+        return ready_in_ex(x.kind, x.data, older.store);
+    }
+    true
+}
