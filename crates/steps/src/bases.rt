@@ -25,44 +25,46 @@ pub const N: u32 = 8;
 
 // Kind, flags, sources, target, execution latency, fetch latency, data latency. Instructions 0, 1
 // and 7 are stores.
-const TRACE: [[u8; 10]; 8] = [
-    [2, 5, 0, 0, 0, 1, 11, 0, 10, 0],
-    [2, 1, 0, 0, 0, 2, 12, 0, 1, 0],
-    [1, 4, 0, 0, 1, 3, 13, 0, 30, 0],
-    [1, 1, 0, 0, 2, 4, 14, 0, 31, 0],
-    [0, 1, 0, 0, 0, 5, 15, 0, 0, 0],
-    [3, 0, 0, 0, 0, 6, 16, 0, 0, 0],
-    [1, 5, 0, 0, 3, 0, 17, 0, 34, 0],
-    [2, 5, 0, 0, 0, 8, 18, 0, 20, 0],
-];
+fn record(i: usize) -> [u8; 10] {
+    match i {
+        0 => [2, 5, 0, 0, 0, 1, 11, 0, 10, 0],
+        1 => [2, 1, 0, 0, 0, 2, 12, 0, 1, 0],
+        2 => [1, 4, 0, 0, 1, 3, 13, 0, 30, 0],
+        3 => [1, 1, 0, 0, 2, 4, 14, 0, 31, 0],
+        4 => [0, 1, 0, 0, 0, 5, 15, 0, 0, 0],
+        5 => [3, 0, 0, 0, 0, 6, 16, 0, 0, 0],
+        6 => [1, 5, 0, 0, 3, 0, 17, 0, 34, 0],
+        _ => [2, 5, 0, 0, 0, 8, 18, 0, 20, 0],
+    }
+}
 
 pub fn body() -> [u8; 80] {
     let mut bytes = [0u8; 80];
     let mut i = 0;
     while i < 80 {
-        bytes[i] = TRACE[i / 10][i % 10];
+        let one = record(i / 10);
+        bytes[i] = one[i % 10];
         i += 1;
     }
     bytes
 }
 
-// The count on entry of each of the eight, by slot.
-const ENTRY: [[u32; 8]; 6] = [
-    [11, 12, 0, 14, 15, 0, 17, 18],
-    [0, 0, 0, 0, 0, 0, 0, 0],
-    [1, 2, 3, 4, 5, 6, 0, 8],
-    [0, 0, 30, 0, 0, 0, 34, 0],
-    [9, 0, 0, 0, 0, 0, 0, 19],
-    [0, 0, 0, 0, 0, 0, 0, 0],
-];
+// The count on entry of each of the eight, by slot: none has one above 0 in ID or WB.
+fn entries(k: u32) -> [u32; 8] {
+    match k {
+        IF => [11, 12, 0, 14, 15, 0, 17, 18],
+        EX => [1, 2, 3, 4, 5, 6, 0, 8],
+        MEM => [0, 0, 30, 0, 0, 0, 34, 0],
+        ST => [9, 0, 0, 0, 0, 0, 0, 19],
+        _ => [0; 8],
+    }
+}
 
 fn entry(k: u32, index: u32) -> u32 {
-    let slot = k as usize;
+    let n = entries(k);
     let i = index as usize;
-    if slot < 6 {
-        if i < 8 {
-            return ENTRY[slot][i];
-        }
+    if i < 8 {
+        return n[i];
     }
     0
 }

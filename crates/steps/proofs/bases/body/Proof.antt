@@ -6,6 +6,7 @@ use Rattle.steps.proofs.bases.body.Statement.{statement}
 use Rattle.steps.proofs.bases.body.Tie as tie
 use Rattle.steps.proofs.bases.body.Reads as reads
 use Rattle.steps.proofs.bases.body.Lts as lts
+use Rattle.steps.proofs.bases.record.Reads as record-reads
 
 abbrev Inv-loop : tie.InvT-loop
 Inv-loop bytes₀ i₀ bytes i = i ≤ 80
@@ -16,14 +17,11 @@ abbrev μ-loop : tie.MeasureT-loop
 loop-holds : tie.Need-loop-holds Inv-loop μ-loop
 loop-holds c = omega arith
 
-mul-bytes : tie.Need-mul-bytes Inv-loop μ-loop
-mul-bytes c = omega arith
+record-requires : tie.Need-record-requires Inv-loop μ-loop
+record-requires c κs = tt
 
-index-1-bytes : tie.Need-index-1-bytes Inv-loop μ-loop
-index-1-bytes c = omega arith
-
-index-2-bytes : tie.Need-index-2-bytes Inv-loop μ-loop
-index-2-bytes c = omega arith
+array-read-bytes : tie.Need-array-read-bytes Inv-loop μ-loop
+array-read-bytes c = search needs
 
 array-write-bytes : tie.Need-array-write-bytes Inv-loop μ-loop
 array-write-bytes c = search needs
@@ -47,9 +45,8 @@ body-spec =
     Inv-loop
     μ-loop
     loop-holds
-    mul-bytes
-    index-1-bytes
-    index-2-bytes
+    record-requires
+    array-read-bytes
     array-write-bytes
     add-i
     loop-less
