@@ -7,7 +7,7 @@ use super::places::PRE;
 use super::places::Place;
 use super::places::ST;
 use super::sets::has;
-use super::sets::with;
+use super::sets::with_if;
 use super::trace::BRANCH;
 use super::trace::HIT;
 use super::trace::Instruction;
@@ -45,23 +45,25 @@ fn short_of(at: Place, s: u8) -> bool {
     }
 }
 
+// It is of this kind and short of (s, 0).
+fn is_short(x: Instruction, at: Place, kind: u8, s: u8) -> bool {
+    x.kind == kind && short_of(at, s)
+}
+
+fn either(a: bool, b: bool) -> bool {
+    a || b
+}
+
 // What is asked of the older ones, with x, which stands at `at`, one of them.
 pub fn one_more(older: Older, x: Instruction, at: Place) -> Older {
-    let mut o = older;
-    if at.stage == PRE {
-        o.in_pre = true;
+    let load = is_short(x, at, LOAD, MEM);
+    Older {
+        in_pre: either(older.in_pre, at.stage == PRE),
+        branch: either(older.branch, is_short(x, at, BRANCH, EX)),
+        load: either(older.load, load),
+        store: either(older.store, is_short(x, at, STORE, ST)),
+        targets: with_if(older.targets, x.target, load),
     }
-    if x.kind == BRANCH && short_of(at, EX) {
-        o.branch = true;
-    }
-    if x.kind == LOAD && short_of(at, MEM) {
-        o.load = true;
-        o.targets = with(o.targets, x.target);
-    }
-    if x.kind == STORE && short_of(at, ST) {
-        o.store = true;
-    }
-    o
 }
 
 // "In pre it is ready when no older one is in pre, no older branch is short of (EX, 0), and its

@@ -3,7 +3,7 @@
 // has instructions.
 use super::trace::MOST;
 use super::trace::size;
-ghost use Prim.Native.Nat.{_<_, _≤_};
+ghost use Prim.Native.Nat.{_≤_};
 
 // The stages in the order in which they run; a store passes ST and any other kind WB.
 pub const PRE: u8 = 0;

@@ -16,7 +16,7 @@ use super::places::WB;
 use super::places::place_at;
 use super::places::put;
 use super::sets::has;
-use super::sets::with;
+use super::sets::with_if;
 use super::trace::Instruction;
 use super::trace::LOAD;
 use super::trace::MISS;
@@ -24,7 +24,7 @@ use super::trace::PLAIN;
 use super::trace::STORE;
 use super::trace::instruction_at;
 use super::trace::size;
-ghost use Prim.Native.Nat.{_<_, _≤_};
+ghost use Prim.Native.Nat.{_≤_};
 
 // "Stages run pre, IF, ID, EX, MEM, then ST for a store or WB for any other kind, then post."
 fn next(kind: u8, stage: u8) -> u8 {
@@ -37,37 +37,29 @@ fn next(kind: u8, stage: u8) -> u8 {
     if kind == STORE { ST } else { WB }
 }
 
-// What stands in the stages: the stages that are not empty; those with an instruction whose count is
-// above 0 or that is not ready; and whether a store stands in MEM, and any other kind.
+// What stands in the stages: those in which a store stands, and any other kind; those with an
+// instruction whose count is above 0 or that is not ready.
 struct Standing {
-    filled: u32,
+    stores: u32,
+    others: u32,
     waiting: u32,
-    store_in_mem: bool,
-    other_in_mem: bool,
 }
 
 fn nothing() -> Standing {
     Standing {
-        filled: 0,
+        stores: 0,
+        others: 0,
         waiting: 0,
-        store_in_mem: false,
-        other_in_mem: false,
     }
 }
 
 // The same with one instruction more.
 fn seen(s: Standing, kind: u8, at: Place, is_ready: bool) -> Standing {
     let waits = at.count > 0 || !is_ready;
-    let in_mem = at.stage == MEM;
     Standing {
-        filled: with(s.filled, at.stage),
-        waiting: if waits {
-            with(s.waiting, at.stage)
-        } else {
-            s.waiting
-        },
-        store_in_mem: s.store_in_mem || (in_mem && kind == STORE),
-        other_in_mem: s.other_in_mem || (in_mem && kind != STORE),
+        stores: with_if(s.stores, at.stage, kind == STORE),
+        others: with_if(s.others, at.stage, kind != STORE),
+        waiting: with_if(s.waiting, at.stage, waits),
     }
 }
 
@@ -89,32 +81,25 @@ fn all_standing<'a>(body: &'a [u8], stages: &'a [u8], counts: &'a [u32]) -> Stan
 }
 
 // "A stage will be free when it is empty or its occupant moves in this cycle; the occupant moves
-// only if its own next stage will be free", which stands in `free`.
+// only if its own next stage will be free", which `free` says. Were there several in a stage, each
+// would have to move: that there is at most one is a theorem about the rules, and not used here.
 fn will_be_free(s: Standing, stage: u8, free: u32) -> bool {
-    if !has(s.filled, stage) {
-        return true;
-    }
     if has(s.waiting, stage) {
         return false;
     }
-    if stage != MEM {
-        return has(free, next(PLAIN, stage));
-    }
-    if s.store_in_mem && !has(free, ST) {
+    if has(s.stores, stage) && !has(free, next(STORE, stage)) {
         return false;
     }
-    !s.other_in_mem || has(free, WB)
+    !has(s.others, stage) || has(free, next(PLAIN, stage))
 }
 
 // The stages that will be free; "post is always free". A next stage is a later one, so the last is
 // settled first.
 fn all_free(s: Standing) -> u32 {
-    let mut free = with(0, POST);
+    let mut free = with_if(0, POST, true);
     let mut stage = WB;
     while stage > PRE {
-        if will_be_free(s, stage, free) {
-            free = with(free, stage);
-        }
+        free = with_if(free, stage, will_be_free(s, stage, free));
         stage -= 1;
     }
     free

@@ -5,7 +5,6 @@ use super::rules::cycle;
 use super::trace::Instruction;
 use super::trace::instruction_at;
 use super::trace::size;
-ghost use Prim.Native.Nat.{_≤_};
 
 pub struct Ran {
     pub cycles: u32,

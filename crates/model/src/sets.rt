@@ -8,10 +8,14 @@ pub fn has(set: u32, number: u8) -> bool {
     }
 }
 
-pub fn with(set: u32, number: u8) -> u32 {
+fn with(set: u32, number: u8) -> u32 {
     if number < 32 {
         set | (1u32 << number as u32)
     } else {
         set
     }
+}
+
+pub fn with_if(set: u32, number: u8, yes: bool) -> u32 {
+    if yes { with(set, number) } else { set }
 }

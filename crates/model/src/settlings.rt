@@ -157,6 +157,14 @@ fn time_of(body: &[u8], choice: u32, out: &mut [u8], stages: &mut [u8], counts: 
     settled_finish(out, body.len(), stages, counts)
 }
 
+fn least(a: u32, b: u32) -> u32 {
+    if a < b { a } else { b }
+}
+
+fn greatest(a: u32, b: u32) -> u32 {
+    if a > b { a } else { b }
+}
+
 // Best and worst over all settlings, each of which is run: twice as many for each unknown flag more.
 // The lent arrays have room for the settled body and for its places.
 pub fn bounds_in(body: &[u8], out: &mut [u8], stages: &mut [u8], counts: &mut [u32]) -> Times {
@@ -167,12 +175,8 @@ pub fn bounds_in(body: &[u8], out: &mut [u8], stages: &mut [u8], counts: &mut [u
     while choice < last {
         choice += 1;
         let time = time_of(body, choice, out, stages, counts);
-        if time < best {
-            best = time;
-        }
-        if time > worst {
-            worst = time;
-        }
+        best = least(best, time);
+        worst = greatest(worst, time);
     }
     Times { best, worst }
 }
@@ -196,8 +200,9 @@ pub fn finish_with_all(body: &[u8], flag: u8) -> u32
     settled_finish(&out, body.len(), &mut stages, &mut counts)
 }
 
-// For a trace with more unknown flags than can be settled one by one: the time of the settling with
-// hits alone, and of the one with misses alone. That they are best and worst is not told here.
+// For a trace with more unknown flags than can be settled one by one: the time with every unknown flag
+// a hit, and with every one a miss. That no other settling is quicker or slower is the engine's claim,
+// and not counted out here.
 pub fn all_hits_all_misses(body: &[u8]) -> Times {
     Times {
         best: finish_with_all(body, HIT),

@@ -10,7 +10,7 @@ use model::Times;
 
 const LAST_ROW: u32 = 1000;
 
-// With more unknown flags than this not every settling is run.
+// Up to this many unknown flags every settling is run.
 const FEW: u32 = 8;
 
 fn slot<'a>(body: &'a [u8], stages: &'a [u8], counts: &'a [u32], stage: u8) {
@@ -65,7 +65,7 @@ fn rows_of_misses(body: &[u8]) {
     settled_rows(&settled, body.len());
 }
 
-// Over all settlings where they are few, and of the two extreme ones otherwise.
+// Over all settlings where the unknown flags are few; otherwise with all of them hits, and all misses.
 fn times(body: &[u8]) -> Times {
     if model::unknowns(body) > FEW {
         return model::all_hits_all_misses(body);

@@ -9,8 +9,8 @@ Inv-loop s free₀ stage₀ free stage = Unit
 abbrev μ-loop : tie.MeasureT-loop
 μ-loop s free₀ stage₀ free stage = stage
 
-with-requires : tie.Need-with-requires Inv-loop μ-loop
-with-requires c κs = tt
+with-if-requires : tie.Need-with-if-requires Inv-loop μ-loop
+with-if-requires c κs = tt
 
 loop-holds : tie.Need-loop-holds Inv-loop μ-loop
 loop-holds c = omega arith
@@ -18,8 +18,8 @@ loop-holds c = omega arith
 will-be-free-requires : tie.Need-will-be-free-requires Inv-loop μ-loop
 will-be-free-requires c κs = tt
 
-with-requires-2 : tie.Need-with-requires-2 Inv-loop μ-loop
-with-requires-2 c κs = tt
+with-if-requires-2 : tie.Need-with-if-requires-2 Inv-loop μ-loop
+with-if-requires-2 c κs = tt
 
 sub-stage : tie.Need-sub-stage Inv-loop μ-loop
 sub-stage c = omega arith
@@ -39,10 +39,10 @@ all-free-spec =
     (tie.spec
     Inv-loop
     μ-loop
-    with-requires
+    with-if-requires
     loop-holds
     will-be-free-requires
-    with-requires-2
+    with-if-requires-2
     sub-stage
     loop-less
     loop-again

@@ -1,8 +1,8 @@
 -- `model::settlings::bounds_in` is safe and ends. Assumes nothing.
 use Prim.Native.Nat.{_≤_, _-_}
-use native.Mathlib.Omega.{arith}
-use lib.ListN.{length}
 use mathlib.Core.Path.{_≡_}
+use lib.ListN.{length}
+use native.Mathlib.Omega.{arith}
 use Rattle.model.proofs.settlings.bounds_in.Statement.{statement}
 use Rattle.model.proofs.settlings.bounds_in.Tie as tie
 
@@ -29,17 +29,17 @@ add-choice c = omega arith
 time-of-requires-2 : tie.Need-time-of-requires-2 Inv-loop μ-loop
 time-of-requires-2 c κs = tt
 
+least-requires : tie.Need-least-requires Inv-loop μ-loop
+least-requires c κs = tt
+
+greatest-requires : tie.Need-greatest-requires Inv-loop μ-loop
+greatest-requires c κs = tt
+
 loop-less : tie.Need-loop-less Inv-loop μ-loop
 loop-less c = omega arith
 
 loop-again : tie.Need-loop-again Inv-loop μ-loop
 loop-again c = omega arith
-
-loop-less-2 : tie.Need-loop-less-2 Inv-loop μ-loop
-loop-less-2 c = omega arith
-
-loop-again-2 : tie.Need-loop-again-2 Inv-loop μ-loop
-loop-again-2 c = omega arith
 
 same-length : tie.Need-same-length Inv-loop μ-loop
 same-length c = omega arith
@@ -64,10 +64,10 @@ bounds-in-spec =
     loop-holds
     add-choice
     time-of-requires-2
+    least-requires
+    greatest-requires
     loop-less
     loop-again
-    loop-less-2
-    loop-again-2
     same-length
     same-length-2
     same-length-3
