@@ -81,7 +81,7 @@ pub fn past_the_end() {
     past(&body, 4096).line(b"view of 4,096, past its end");
 }
 
-// The first, the last and none of a refused body's instructions are given.
+// The first and the last of a refused body's instructions are not given, and no other is.
 fn of_refused(body: &[u8], last: u32, made: u32) -> Tally {
     Tally::new()
         .and(gives_none(body, 0, made))
@@ -89,15 +89,31 @@ fn of_refused(body: &[u8], last: u32, made: u32) -> Tally {
         .and(gives_none(body, 4294967295, made))
 }
 
+// The first n bytes of two instructions.
+fn two_refused(older: Fields, younger: Fields, n: usize, made: u32, name: &[u8]) {
+    let body = two_of(older, younger);
+    of_refused(part(&body, n), 1, made).line(name);
+}
+
 pub fn refused() {
-    let two = two_of(plain(), memory(1, 0, 7));
-    of_refused(part(&two, 19), 1, 10).line(b"view of 19 bytes, 10");
-    of_refused(part(&two, 9), 0, 10).line(b"view of 9 bytes, 10");
-    let first = two_of(unlawful(), plain());
-    of_refused(&first, 1, 8).line(b"view with the first record broken, 8");
-    let second = two_of(plain(), unlawful());
-    of_refused(&second, 1, 8).line(b"view with the second record broken, 8");
-    of_refused(part(&second, 19), 1, 10).line(b"view with both, 10");
+    let load = memory(1, 0, 7);
+    two_refused(plain(), load, 19, 10, b"view of 19 bytes, 10");
+    two_refused(plain(), load, 9, 10, b"view of 9 bytes, 10");
+    two_refused(
+        unlawful(),
+        load,
+        20,
+        8,
+        b"view with the first record broken, 8",
+    );
+    two_refused(
+        load,
+        unlawful(),
+        20,
+        8,
+        b"view with the second record broken, 8",
+    );
+    two_refused(unlawful(), load, 19, 10, b"view with both, 10");
 }
 
 pub fn too_long() {
