@@ -90,6 +90,24 @@ fn a_refused_step_keeps_the_state() {
     assert_eq!(by_value::step(&body, state), (12, before));
 }
 
+/// D from each of its rows, its last one twice, whole and cut short: in place the same number and state as by value.
+#[test]
+fn a_step_in_place_is_the_step_by_value() {
+    let d = encode(&[Instruction { target: 1, ..memory(LOAD, HIT, 1) }, Instruction { source1: 1, target: 2, ..plain() }]);
+    for (cycle, length) in (0..10).flat_map(|cycle| [20, 10, 9].map(|length| (cycle, length))) {
+        let row = sic::run(&d, cycle).unwrap().state;
+        let mut state = row;
+        let refusal = number(state.advance(&d[..length]));
+        assert_eq!((refusal, state), by_value::step(&d[..length], row), "{length} bytes, row {cycle}");
+        assert_eq!(refusal, if length == 9 { 10 } else if length == 10 && row.fetched == 2 { 12 } else { 0 });
+        match (refusal, length) {
+            (0, 20) => assert_eq!(state, sic::run(&d, cycle + 1).unwrap().state),
+            (0, _) => (),
+            _ => assert_eq!(state, row),
+        }
+    }
+}
+
 #[test]
 fn views_read_any_bytes() {
     let bytes: Vec<u8> = (0..25).collect();

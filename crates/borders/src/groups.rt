@@ -1,4 +1,5 @@
-// Runs the cases of a group and counts those that come out as expected.
+// Runs the cases of a group and counts those that come out as expected, in the engine and in the
+// second model.
 ghost use Prim.Native.Nat.{_≤_};
 use crate::opening;
 use crate::rules;
@@ -7,10 +8,11 @@ use crate::writing;
 // The most bytes that a case lays out: two more than a file may have.
 const ROOM: usize = 65538;
 
-// What a case expects and what came.
+// What a case expects, what came of the engine, and what the second model says.
 pub struct Seen {
     pub expected: u32,
     pub came: u32,
+    pub model: u32,
 }
 
 pub enum Group {
@@ -86,6 +88,8 @@ fn mismatch(k: u32, seen: Seen) {
     io::print_decimal(1, seen.expected as u64);
     io::write_all(1, b", came ");
     io::print_decimal(1, seen.came as u64);
+    io::write_all(1, b", model ");
+    io::print_decimal(1, seen.model as u64);
     io::write_all(1, b"\n");
 }
 
@@ -94,7 +98,7 @@ fn try_case(group: Group, k: u32, file: &mut [u8], out: &mut [u8]) -> u32
     ensures { λ r. ⌜ r ≤ 1 ⌝ }
 {
     let it = look(group, k, file, out);
-    if it.expected == it.came {
+    if (it.expected == it.came) & (it.expected == it.model) {
         return 1;
     }
     mismatch(k, it);

@@ -97,6 +97,43 @@ pub fn most_of(f: Fields) -> [u8; 40960] {
     body
 }
 
+// A latency from 1 to 65,251, by k.
+fn latency(k: u32) -> u32 {
+    1 + k % 251 * 261
+}
+
+fn only(test: bool, n: u32) -> u32 {
+    if test { n } else { 0 }
+}
+
+// Instruction k of a trace of different ones, all within the rules.
+pub fn different(k: u32) -> Fields {
+    let kind = k % 4;
+    let memory = (kind == 1) | (kind == 2);
+    Fields {
+        kind,
+        fetch: k / 4 % 3,
+        access: only(memory, k / 12 % 3),
+        source1: k % 32,
+        source2: k / 32 % 32,
+        target: only(kind < 2, k / 8 % 32),
+        execution: k % 256,
+        fetch_latency: latency(k / 2),
+        data_latency: only(memory, latency(k)),
+    }
+}
+
+pub fn different_body() -> [u8; 40960] {
+    let mut body = [0u8; 40960];
+    let mut i = 0;
+    while i < 40960 {
+        let one = record_of(different((i / 10) as u32));
+        body[i] = one[i % 10];
+        i += 1;
+    }
+    body
+}
+
 // The first bytes.
 pub fn part(bytes: &[u8], n: usize) -> &[u8] {
     if n <= bytes.len() {

@@ -1,6 +1,8 @@
 // The cases of document 01 that are run and not proved, each on a line as document 01 names it, with
-// how many of its inputs came out as they should.
+// how many of its inputs came out as they should, in the engine and in the second model; and Step
+// against Run, and View, which the second model has not.
 mod build;
+mod reads;
 mod report;
 mod runs;
 mod times;
@@ -22,11 +24,19 @@ fn astray() {
     times::dependences();
 }
 
+fn view() {
+    reads::every_instruction();
+    reads::past_the_end();
+    reads::refused();
+    reads::too_long();
+}
+
 fn main() {
     times::worked();
     elsewhere();
     astray();
     times::longest();
     runs::long_run();
-    runs::steps_in_place();
+    runs::steps();
+    view();
 }

@@ -1,4 +1,4 @@
-// Runs for a limit of cycles.
+// Runs for a limit of cycles, in the engine and in the second model.
 use crate::build::memory;
 use crate::build::most_of;
 use crate::build::part;
@@ -7,27 +7,46 @@ use crate::build::record_of;
 use crate::build::registers;
 use crate::build::two_of;
 use crate::report::Tally;
-use inplace::advanced;
 use machine::Slot;
 use machine::State;
 use pipeline::step;
 use record::Fields;
 use running::run;
 
+// The second model runs as long, for traces of at most two.
+fn model_runs(body: &[u8], limit: u32, cycles: u32, left: bool) -> bool {
+    let mut stages = [0u8; 2];
+    let mut counts = [0u32; 2];
+    let ran = model::run(body, limit, &mut stages, &mut counts);
+    (model::settled_refusal(body) == 0) & (ran.cycles == cycles) & (ran.left == left)
+}
+
+fn runs_for(body: &[u8], limit: u32, cycles: u32, left: bool) -> bool {
+    let found = run(body, limit);
+    (found.refusal == 0)
+        & (found.cycles == cycles)
+        & (found.left == left)
+        & model_runs(body, limit, cycles, left)
+}
+
 fn runs(only: Fields, n: usize, limit: u32, cycles: u32, left: bool) -> bool {
     let body = record_of(only);
-    let found = run(part(&body, n), limit);
-    found.refusal == 0 && found.cycles == cycles && found.left == left
+    runs_for(part(&body, n), limit, cycles, left)
 }
 
 // A refusal returns the starting state, 0 and no.
+fn declines(body: &[u8], refusal: u32) -> bool {
+    let found = run(body, 7);
+    same_state(found.state, State::start())
+        & (found.refusal == refusal)
+        & (found.cycles == 0)
+        & !found.left
+        & (model::settled_refusal(body) == refusal)
+}
+
 fn declined(only: Fields, n: usize, refusal: u32) -> bool {
     let body = record_of(only);
-    let found = run(part(&body, n), 7);
-    if found.state.IF.filled || found.state.fetched != 0 {
-        return false;
-    }
-    found.refusal == refusal && found.cycles == 0 && !found.left
+    declines(part(&body, n), refusal)
 }
 
 pub fn limits() {
@@ -48,10 +67,22 @@ pub fn other_limits() {
     tally.line(b"limits 0 and 4,294,967,295, the empty trace, and refused");
 }
 
-// Whether somebody stands in ST and in WB after a number of cycles.
+// Whether somebody stands in ST and in WB after a number of cycles, in the second model.
+fn model_last_stages(body: &[u8], cycles: u32, in_st: bool, in_wb: bool) -> bool {
+    let mut stages = [0u8; 2];
+    let mut counts = [0u32; 2];
+    let ran = model::run(body, cycles, &mut stages, &mut counts);
+    let st = model::in_stage(body, &stages, &counts, model::ST);
+    let wb = model::in_stage(body, &stages, &counts, model::WB);
+    (ran.cycles == cycles) & (st.filled == in_st) & (wb.filled == in_wb)
+}
+
 fn last_stages(body: &[u8], cycles: u32, in_st: bool, in_wb: bool) -> bool {
     let found = run(body, cycles);
-    found.cycles == cycles && found.state.ST.filled == in_st && found.state.WB.filled == in_wb
+    (found.cycles == cycles)
+        & (found.state.ST.filled == in_st)
+        & (found.state.WB.filled == in_wb)
+        & model_last_stages(body, cycles, in_st, in_wb)
 }
 
 // The plain one is in WB after 6 cycles and nowhere after 7; the store is in ST until the 15th.
@@ -85,38 +116,47 @@ pub fn long_run() {
 }
 
 fn same_slot(a: Slot, b: Slot) -> bool {
-    a.filled == b.filled && a.index == b.index && a.count == b.count
+    (a.filled == b.filled) & (a.index == b.index) & (a.count == b.count)
 }
 
 fn same_state(a: State, b: State) -> bool {
-    let front = same_slot(a.IF, b.IF) && same_slot(a.ID, b.ID) && same_slot(a.EX, b.EX);
-    let back = same_slot(a.MEM, b.MEM) && same_slot(a.ST, b.ST) && same_slot(a.WB, b.WB);
-    a.fetched == b.fetched && front && back
+    (a.fetched == b.fetched)
+        & same_slot(a.IF, b.IF)
+        & same_slot(a.ID, b.ID)
+        & same_slot(a.EX, b.EX)
+        & same_slot(a.MEM, b.MEM)
+        & same_slot(a.ST, b.ST)
+        & same_slot(a.WB, b.WB)
 }
 
-// One cycle in the caller's own storage gives what the step by value gives.
-fn in_place(body: &[u8], s: State) -> bool {
-    let stepped = step(body, s);
-    let advanced = advanced(s, body);
-    stepped.refusal == advanced.refusal && same_state(stepped.state, advanced.state)
+// A step from the row after t cycles gives the row after one more.
+fn steps_on(body: &[u8], t: u32) -> bool {
+    let stepped = step(body, run(body, t).state);
+    let next = run(body, std::num::wrapping_add_u32(t, 1));
+    stepped.refusal == 0 && same_state(stepped.state, next.state)
 }
 
-// D from each of its rows, and refusals, which give the state back.
-fn places_in_place(body: &[u8], n: usize) -> Tally {
+// A body that is cut short is refused, and the row is given back.
+fn declined_from(body: &[u8], t: u32) -> bool {
+    let row = run(body, t).state;
+    let stepped = step(part(body, 9), row);
+    stepped.refusal == 10 && same_state(stepped.state, row)
+}
+
+// D from each of its rows, its last one twice.
+fn each_row(body: &[u8]) -> Tally {
     let mut tally = Tally::new();
     let mut t = 0;
     while t < 10 {
-        let ran = run(body, t);
-        tally = tally.and(in_place(body, ran.state));
-        tally = tally.and(in_place(part(body, n), ran.state));
+        tally = tally.and(steps_on(body, t));
+        tally = tally.and(declined_from(body, t));
         t += 1;
     }
     tally
 }
 
-pub fn steps_in_place() {
+pub fn steps() {
     let into = registers(memory(1, 0, 1), 0, 0, 1);
     let body = two_of(into, registers(plain(), 1, 0, 2));
-    places_in_place(&body, 10).line(b"a step in place");
-    places_in_place(&body, 9).line(b"a refused step in place");
+    each_row(&body).line(b"a step from each row of D, and a refused one");
 }

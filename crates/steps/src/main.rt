@@ -1,7 +1,12 @@
-// Steps case D from the start, tries each way of not being orderly and each refusal of the body, and
-// steps orderly states, most of which no run reaches. What it prints was worked out by hand.
+// Steps case D from the start, tries each refusal of the body, and steps orderly states, most of which
+// no run reaches; then tries each way of not being orderly in each slot, with every set of other
+// slots filled. What it prints was worked out by hand.
+mod bases;
+mod groups;
 mod print;
 mod states;
+mod tally;
+mod ways;
 
 ghost use Prim.Native.Nat.{_≤_};
 ghost use lib.ListN.{length};
@@ -39,8 +44,16 @@ fn report(out: &mut [u8]) -> usize
     states::orderly(mixed, out, bodies)
 }
 
-fn main() {
+fn write_report() {
     let mut out = io::buffer();
     let n = report(&mut out);
     io::write_all(libc::STDOUT_FILENO, &out[..n]);
+}
+
+fn main() {
+    write_report();
+    groups::one_slot();
+    groups::out_of_turn();
+    groups::fetched_counts();
+    groups::each_in_ST();
 }

@@ -8,7 +8,7 @@ use Rattle.cases.proofs.times.count_plain.Lts as lts
 use Rattle.cases.proofs.build.part.Reads as part-reads
 use Rattle.cases.proofs.report.Tally.and.Reads as and-reads
 use Rattle.cases.proofs.report.Tally.new.Reads as new-reads
-use Rattle.timing.proofs.finish.Reads as finish-reads
+use Rattle.cases.proofs.times.time_of_plain.Reads as time-of-plain-reads
 
 abbrev Inv-loop : tie.InvT-loop
 Inv-loop body tally₀ n₀ tally n = (1 ≤ n) × (n ≤ 4097)
@@ -31,11 +31,8 @@ mul-part c = search needs
 part-requires : tie.Need-part-requires Inv-loop μ-loop
 part-requires c κs = search needs
 
-finish-requires : tie.Need-finish-requires Inv-loop μ-loop
-finish-requires c κs = search needs
-
-add-and : tie.Need-add-and Inv-loop μ-loop
-add-and c = search needs
+time-of-plain-requires : tie.Need-time-of-plain-requires Inv-loop μ-loop
+time-of-plain-requires c κs = omega arith
 
 and-requires : tie.Need-and-requires Inv-loop μ-loop
 and-requires c κs = search needs
@@ -63,8 +60,7 @@ count-plain-spec =
     cast-part
     mul-part
     part-requires
-    finish-requires
-    add-and
+    time-of-plain-requires
     and-requires
     add-n
     loop-less

@@ -1,9 +1,9 @@
--- `steps::main` is safe: what is written lies within the buffer.
+-- `write_report` is safe: what is written lies within the buffer.
 use mathlib.Core.Path.{sym}
 use lib.Seq.{length-take-le}
 use borrow.Author.Needs.{needs}
-use Rattle.steps.proofs.main.Statement.{statement}
-use Rattle.steps.proofs.main.Tie as tie
+use Rattle.steps.proofs.write_report.Statement.{statement}
+use Rattle.steps.proofs.write_report.Tie as tie
 
 buffer-requires : tie.Need-buffer-requires
 buffer-requires c κs = search needs
@@ -26,8 +26,8 @@ write-all-requires c κs = search needs
 returns : tie.Need-returns
 returns c = search needs
 
-pub main-spec : {M : Type 1} → statement M
-main-spec =
+pub write-report-spec : {M : Type 1} → statement M
+write-report-spec =
     tie.close
     (tie.spec
     buffer-requires
