@@ -99,11 +99,11 @@ fn a_step_in_place_is_the_step_by_value() {
         let mut state = row;
         let refusal = number(state.advance(&d[..length]));
         assert_eq!((refusal, state), by_value::step(&d[..length], row), "{length} bytes, row {cycle}");
-        assert_eq!(refusal, if length == 9 { 10 } else if length == 10 && row.fetched == 2 { 12 } else { 0 });
-        match (refusal, length) {
-            (0, 20) => assert_eq!(state, sic::run(&d, cycle + 1).unwrap().state),
-            (0, _) => (),
-            _ => assert_eq!(state, row),
+        match (length, row.fetched) {
+            (20, _) => assert_eq!((refusal, state), (0, sic::run(&d, cycle + 1).unwrap().state)),
+            (10, 2) => assert_eq!((refusal, state), (12, row)),
+            (10, _) => assert_eq!(refusal, 0),
+            _ => assert_eq!((refusal, state), (10, row)),
         }
     }
 }
