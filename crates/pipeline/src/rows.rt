@@ -14,5 +14,5 @@ pub fn next_worst(body: &[u8], s: State) -> State
     requires { ⌜ (bodyRefusal (now body) ≡ 0) × Orderly (settle miss (traceOf (now body))) s ⌝ }
     ensures { λ r. ⌜ r ≡ stateOf (settle miss (traceOf (now (body .entry)))) (cycle (settle miss (traceOf (now (body .entry)))) (placeOf s)) ⌝ }
 {
-    cycle_on(body, s).state
+    cycle_on(0, body, s).state
 }

@@ -12,7 +12,7 @@ ghost use Rattle.machine.specs.Time.{settle};
 ghost use Rattle.machine.proofs.Stages.{stageAt};
 ghost use Rattle.machine.proofs.BySlots.{heldBack, occupied, storeInMEM, leaves, slotAfter, stepBySlots};
 ghost use Rattle.record.specs.Rules.{instructionOf};
-ghost use Rattle.record.specs.Refusal.{_unless_};
+ghost use Rattle.record.specs.Refusal.{_then_, _unless_};
 ghost use Rattle.record.specs.Body.{traceOf, lengthRefusal};
 ghost use Rattle.pipeline.specs.Reads.{Reads};
 ghost use Rattle.pipeline.specs.Bits.{bitsOf, pendingIn, opens, starts};
@@ -216,12 +216,18 @@ fn records(body: &[u8]) -> u32
     (body.len() / RECORD_SIZE) as u32
 }
 
-// One cycle of the trace whose unknown flags are misses, from an orderly state; any other state is
-// refused.
-pub(crate) fn cycle_on(body: &[u8], s: State) -> Stepped
-    requires { ⌜ lengthRefusal (now body) ≡ 0 ⌝ }
-    ensures { λ r. ⌜ r ≡ onward (notOrderly unless orderly (settle miss (traceOf (now (body .entry)))) s) (settle miss (traceOf (now (body .entry)))) s ⌝ }
+// The state one cycle on, unknown flags taken as misses, where the body's own refusal is none and
+// the state is orderly.
+pub(crate) fn cycle_on(fault: u32, body: &[u8], s: State) -> Stepped
+    requires { ⌜ (fault ≡ 0 → lengthRefusal (now body) ≡ 0) ⌝ }
+    ensures { λ r. ⌜ r ≡ onward (fault then (notOrderly unless orderly (settle miss (traceOf (now (body .entry)))) s)) (settle miss (traceOf (now (body .entry)))) s ⌝ }
 {
+    if fault != 0 {
+        return Stepped {
+            refusal: fault,
+            state: s,
+        };
+    }
     let n = records(body);
     let w = with_misses(read_stages(body, s));
     if orderly(n, s, w) {
@@ -240,12 +246,5 @@ pub(crate) fn cycle_on(body: &[u8], s: State) -> Stepped
 pub fn step(body: &[u8], s: State) -> Stepped
     ensures { λ r. ⌜ r ≡ stepAnswer (now (body .entry)) s ⌝ }
 {
-    let fault = settled_refusal(body);
-    if fault != 0 {
-        return Stepped {
-            refusal: fault,
-            state: s,
-        };
-    }
-    cycle_on(body, s)
+    cycle_on(settled_refusal(body), body, s)
 }

@@ -1,19 +1,23 @@
--- `cycle_on` meets its contract: on an orderly state the cycle by slots is the rules' cycle, of the trace whose unknown flags are misses.
-use mathlib.Core.Path.{sym, _∙_}
+-- `cycle_on` meets its contract: the refusals in their order; on an orderly state the cycle by slots is the rules' cycle, of the trace whose
+-- unknown flags are misses.
+use mathlib.Core.Path.{refl, sym, _∙_}
 use native.Mathlib.Omega.{arith}
 use Rattle.machine.specs.Instruction.{miss}
 use Rattle.machine.specs.Time.{settle}
 use Rattle.machine.proofs.Step.{step-by-slots}
 use Rattle.machine.proofs.Orderly.{orderly-is-tested}
 use Rattle.record.specs.Body.{traceOf}
-use Rattle.record.proofs.Refusals.{last-passes, last-fails}
+use Rattle.record.proofs.Refusals.{stop, go-on, last-passes, last-fails}
 use Rattle.schedule.proofs.Settled.{length-settle}
 use Rattle.pipeline.proofs.Answer.{refused, stepped}
 use Rattle.pipeline.proofs.stepping.cycle_on.Statement.{statement}
 use Rattle.pipeline.proofs.stepping.cycle_on.Tie as tie
 
+returns : tie.Need-returns
+returns c = refused _ _ (stop _ refl (c .if1 .taken)) (c .if1 .taken)
+
 records-requires : tie.Need-records-requires
-records-requires c κs = c .before .pre
+records-requires c κs = c .before .before .pre (c .if1 .left)
 
 read-stages-requires : tie.Need-read-stages-requires
 read-stages-requires c κs = tt
@@ -27,47 +31,48 @@ orderly-requires c κs = tt
 cycle-requires : tie.Need-cycle-requires
 cycle-requires c κs =
     let c4 = c .before .before .before .before in
-    let a = c4 .before .before .args in
+    let a = c4 .before .before .before .args in
     let trace = traceOf (a .body .now) in
     let n = c4 .records .ensures in
     let reads = c .before .before .with-misses .ensures trace (a .s) (c .before .before .before .read-stages .ensures) in
-    let t = sym (c .before .orderly .ensures (settle miss trace) reads (length-settle miss trace ∙ n .0)) ∙ c .if1 .taken in
+    let t = sym (c .before .orderly .ensures (settle miss trace) reads (length-settle miss trace ∙ n .0)) ∙ c .if2 .taken in
     let f = (orderly-is-tested (settle miss trace) (a .s) .1 t) .fetched in
     let long = length-settle miss trace in
     let e = n .0 in
     let few = n .1 in
     omega arith
 
-returns : tie.Need-returns
-returns c =
+returns-2 : tie.Need-returns-2
+returns-2 c =
     let c5 = c .before .before .before .before .before in
-    let a = c5 .before .before .args in
+    let a = c5 .before .before .before .args in
     let trace = traceOf (a .body .now) in
     let reads = c .before .before .before .with-misses .ensures trace (a .s) (c .before .before .before .before .read-stages .ensures) in
     let long = length-settle miss trace ∙ c5 .records .ensures .0 in
-    let t = sym (c .before .before .orderly .ensures (settle miss trace) reads long) ∙ c .before .if1 .taken in
+    let t = sym (c .before .before .orderly .ensures (settle miss trace) reads long) ∙ c .before .if2 .taken in
     stepped _ _
-    (last-passes 12 t)
+    (go-on refl (c5 .before .if1 .left) (last-passes 12 t))
     (c .cycle .ensures (settle miss trace) reads long
     ∙ step-by-slots (settle miss trace) (a .s) (orderly-is-tested (settle miss trace) (a .s) .1 t))
 
-returns-2 : tie.Need-returns-2
-returns-2 c =
+returns-3 : tie.Need-returns-3
+returns-3 c =
     let c4 = c .before .before .before .before in
-    let a = c4 .before .before .args in
+    let a = c4 .before .before .before .args in
     let trace = traceOf (a .body .now) in
     let reads = c .before .before .with-misses .ensures trace (a .s) (c .before .before .before .read-stages .ensures) in
-    let t = sym (c .before .orderly .ensures (settle miss trace) reads (length-settle miss trace ∙ c4 .records .ensures .0)) ∙ c .if1 .left in
-    refused _ _ (last-fails 12 t) (λ z. omega arith)
+    let t = sym (c .before .orderly .ensures (settle miss trace) reads (length-settle miss trace ∙ c4 .records .ensures .0)) ∙ c .if2 .left in
+    refused _ _ (go-on refl (c4 .before .if1 .left) (last-fails 12 t)) (λ z. omega arith)
 
 pub cycle-on-spec : {M : Type 1} → statement M
 cycle-on-spec =
     tie.close
     (tie.spec
+    returns
     records-requires
     read-stages-requires
     with-misses-requires
     orderly-requires
     cycle-requires
-    returns
-    returns-2)
+    returns-2
+    returns-3)
