@@ -13,40 +13,33 @@ use pipeline::step;
 use record::Fields;
 use running::run;
 
-// The second model runs as long, for traces of at most two.
-fn model_runs(body: &[u8], limit: u32, cycles: u32, left: bool) -> bool {
-    let mut stages = [0u8; 2];
-    let mut counts = [0u32; 2];
-    let ran = model::run(body, limit, &mut stages, &mut counts);
-    (model::settled_refusal(body) == 0) & (ran.cycles == cycles) & (ran.left == left)
-}
-
-fn runs_for(body: &[u8], limit: u32, cycles: u32, left: bool) -> bool {
+// One instruction, or the first n of its bytes. The two arrays are lent to the second model for its
+// places.
+fn runs(only: Fields, n: usize, limit: u32, cycles: u32, left: bool) -> bool {
+    let bytes = record_of(only);
+    let body = part(&bytes, n);
     let found = run(body, limit);
+    let mut stages = [0u8; 1];
+    let mut counts = [0u32; 1];
+    let ran = model::run(body, limit, &mut stages, &mut counts);
     (found.refusal == 0)
         & (found.cycles == cycles)
         & (found.left == left)
-        & model_runs(body, limit, cycles, left)
-}
-
-fn runs(only: Fields, n: usize, limit: u32, cycles: u32, left: bool) -> bool {
-    let body = record_of(only);
-    runs_for(part(&body, n), limit, cycles, left)
+        & (model::settled_refusal(body) == 0)
+        & (ran.cycles == cycles)
+        & (ran.left == left)
 }
 
 // A refusal returns the starting state, 0 and no.
-fn declines(body: &[u8], refusal: u32) -> bool {
+fn declined(only: Fields, n: usize, refusal: u32) -> bool {
+    let bytes = record_of(only);
+    let body = part(&bytes, n);
     let found = run(body, 7);
     same_state(found.state, State::start())
         & (found.refusal == refusal)
         & (found.cycles == 0)
         & !found.left
         & (model::settled_refusal(body) == refusal)
-}
-
-fn declined(only: Fields, n: usize, refusal: u32) -> bool {
-    let body = record_of(only);
-    declines(part(&body, n), refusal)
 }
 
 pub fn limits() {
@@ -67,22 +60,20 @@ pub fn other_limits() {
     tally.line(b"limits 0 and 4,294,967,295, the empty trace, and refused");
 }
 
-// Whether somebody stands in ST and in WB after a number of cycles, in the second model.
-fn model_last_stages(body: &[u8], cycles: u32, in_st: bool, in_wb: bool) -> bool {
+// Whether somebody stands in ST and in WB after a number of cycles.
+fn last_stages(body: &[u8], cycles: u32, in_st: bool, in_wb: bool) -> bool {
+    let found = run(body, cycles);
     let mut stages = [0u8; 2];
     let mut counts = [0u32; 2];
     let ran = model::run(body, cycles, &mut stages, &mut counts);
     let st = model::in_stage(body, &stages, &counts, model::ST);
     let wb = model::in_stage(body, &stages, &counts, model::WB);
-    (ran.cycles == cycles) & (st.filled == in_st) & (wb.filled == in_wb)
-}
-
-fn last_stages(body: &[u8], cycles: u32, in_st: bool, in_wb: bool) -> bool {
-    let found = run(body, cycles);
     (found.cycles == cycles)
         & (found.state.ST.filled == in_st)
         & (found.state.WB.filled == in_wb)
-        & model_last_stages(body, cycles, in_st, in_wb)
+        & (ran.cycles == cycles)
+        & (st.filled == in_st)
+        & (wb.filled == in_wb)
 }
 
 // The plain one is in WB after 6 cycles and nowhere after 7; the store is in ST until the 15th.

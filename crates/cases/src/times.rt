@@ -25,16 +25,12 @@ const UNKNOWN: u32 = 2;
 
 // The second model runs every cycle of every instruction, so it takes few n: to 64, and the two
 // longest.
-fn model_takes_too(n: u32) -> bool {
-    (n <= 64) | (n >= 4095)
-}
-
 fn time_of_plain(body: &[u8], n: u32) -> bool
     requires { ⌜ n ≤ 4096 ⌝ }
 {
     let found = timing::finish(body);
     let right = (found.refusal == 0) & (found.time == n + 5);
-    if model_takes_too(n) {
+    if (n <= 64) | (n >= 4095) {
         return right & (model::settled_refusal(body) == 0) & (model::finish(body) == n + 5);
     }
     right
@@ -57,16 +53,6 @@ pub fn plain_ones() {
     count_plain(&body).line(b"n plain take n + 5");
 }
 
-// The second model, which runs every settling, has these best and worst times, and names the same
-// refusals.
-fn model_takes(body: &[u8], best: u32, worst: u32) -> bool {
-    let times = model::bounds(body);
-    (times.best == best)
-        & (times.worst == worst)
-        & (model::body_refusal(body) == 0)
-        & (model::settled_refusal(body) == timing::finish(body).refusal)
-}
-
 // The body has these best and worst times, and, where they are equal, this finishing time.
 fn engine_takes(body: &[u8], best: u32, worst: u32) -> bool {
     let both = timing::best_worst(body);
@@ -80,9 +66,14 @@ fn engine_takes(body: &[u8], best: u32, worst: u32) -> bool {
     found.refusal == 11 && found.time == 0
 }
 
-// Both say so.
+// So has the second model, which runs every settling, and it names the same refusals.
 fn takes(body: &[u8], best: u32, worst: u32) -> bool {
-    engine_takes(body, best, worst) & model_takes(body, best, worst)
+    let times = model::bounds(body);
+    engine_takes(body, best, worst)
+        & (times.best == best)
+        & (times.worst == worst)
+        & (model::body_refusal(body) == 0)
+        & (model::settled_refusal(body) == timing::finish(body).refusal)
 }
 
 fn one(only: Fields, time: u32) -> bool {
@@ -187,30 +178,16 @@ fn model_refusal(first: &[u8], second: &[u8]) -> u32 {
     model::settled_refusal(second)
 }
 
-fn model_alike(first: &[u8], second: &[u8]) -> bool {
-    model::finish(first) == model::finish(second)
-}
-
-// Alike as the second model has it.
-fn liken(first: &[u8], second: &[u8], refusal: u32, alike: bool) -> bool {
+// Alike of the first n and the first m bytes, in both.
+fn likened(one: [u8; 20], n: usize, other: [u8; 20], m: usize, refusal: u32, alike: bool) -> bool {
+    let first = part(&one, n);
+    let second = part(&other, m);
     let found = timing::alike(first, second);
     let right = (found.refusal == refusal) & (found.alike == alike);
     if refusal == 0 {
-        return right & (model_alike(first, second) == alike);
+        return right & ((model::finish(first) == model::finish(second)) == alike);
     }
     right & (model_refusal(first, second) == refusal)
-}
-
-// Alike of the first n and the first m bytes.
-fn likened(
-    first: [u8; 20],
-    n: usize,
-    second: [u8; 20],
-    m: usize,
-    refusal: u32,
-    alike: bool,
-) -> bool {
-    liken(part(&first, n), part(&second, m), refusal, alike)
 }
 
 pub fn likeness() {
@@ -235,17 +212,14 @@ fn model_margin(body: &[u8], deadline: u32, refusal: u32) -> i64 {
     0
 }
 
-fn margin_of(body: &[u8], deadline: u32, refusal: u32, margin: i64) -> bool {
+fn left_over(only: Fields, n: usize, deadline: u32, refusal: u32, margin: i64) -> bool {
+    let bytes = record_of(only);
+    let body = part(&bytes, n);
     let found = timing::margin(body, deadline);
     (found.refusal == refusal)
         & (found.margin == margin)
         & (model::body_refusal(body) == refusal)
         & (model_margin(body, deadline, refusal) == margin)
-}
-
-fn left_over(only: Fields, n: usize, deadline: u32, refusal: u32, margin: i64) -> bool {
-    let body = record_of(only);
-    margin_of(part(&body, n), deadline, refusal, margin)
 }
 
 pub fn margins() {
