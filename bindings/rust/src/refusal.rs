@@ -1,7 +1,7 @@
 //! Why a call declines.
 use std::fmt;
 
-/// The paper's refusal numbers.
+/// Document 01's refusal numbers.
 #[derive(Clone, Copy, Debug, PartialEq, Eq, Hash, PartialOrd, Ord)]
 #[repr(u32)]
 pub enum Refusal {

@@ -1,6 +1,7 @@
-// The cases of document 01 that are run and not proved, each on a line as document 01 names it, with
-// how many of its inputs came out as they should, in the engine and in the second model; and Step
-// against Run, and View, which the second model has not.
+// The cases that document 01 names and does not prove, and A to L again, each on a line as document
+// 01 names it, with how many of its inputs came out as they should in the engine and in the second
+// model. The two longest traces go through the engine alone; Step is compared with Run; and View is
+// run, which the second model does not have.
 mod build;
 mod reads;
 mod report;

@@ -60,7 +60,7 @@ pub fn other_limits() {
     tally.line(b"limits 0 and 4,294,967,295, the empty trace, and refused");
 }
 
-// Whether somebody stands in ST and in WB after a number of cycles.
+// Whether ST and WB are filled after a number of cycles.
 fn last_stages(body: &[u8], cycles: u32, in_st: bool, in_wb: bool) -> bool {
     let found = run(body, cycles);
     let mut stages = [0u8; 2];

@@ -11,6 +11,7 @@ use Rattle.machine.specs.Rules.{further, cycle, allPre, after}
 use Rattle.machine.specs.State.{start, placeOf, stateOf, Orderly}
 use Rattle.machine.specs.Time.{finish}
 use Rattle.machine.specs.Order.{Slower}
+use Rattle.machine.specs.Claims.{StatesGivePlaces}
 use Rattle.machine.specs.declared.State.{State}
 use Rattle.machine.proofs.Orderly.{start-is-orderly}
 use Rattle.machine.proofs.Places.{state-agrees}
@@ -82,6 +83,9 @@ module _ (trace : Trace) where
 
   pub run-stops-places : (t i : ℕ) → i < length trace → placeOf (stateAfter trace (min t (finish trace))) i ≡ after trace t i
   run-stops-places t i l = rw (run-stops-state t) (run-places t i l)
+
+pub states-give-places : StatesGivePlaces
+states-give-places = run-places
 
 pub runs-ordered :
     (first second : Trace) →

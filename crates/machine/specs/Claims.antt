@@ -123,3 +123,9 @@ CycleGivesPlaces =
     (i : ℕ) →
     i < length trace →
     placeOf (stateOf trace (cycle trace (placeOf s))) i ≡ cycle trace (placeOf s) i
+
+-- The state after any number of cycles from the start gives every instruction the place that the rules give it: a slot holds one instruction, and no
+-- stage ever has two. A chart's rows are such states.
+abbrev pub StatesGivePlaces : Type 0
+StatesGivePlaces =
+    (trace : Trace) (t i : ℕ) → i < length trace → placeOf (stateOf trace (after trace t)) i ≡ after trace t i

@@ -1,4 +1,4 @@
-// "The chart of trace 0 with unknowns as misses: the header line, then rows 0 to the smaller of
+// "the chart of trace 0 with unknowns as misses: the header line [..], then rows 0 to the smaller of
 // finishing time and 1,000, fields one space apart; each row is the cycle, then the slots as
 // index:count or a dash. The last line has worst and best. A refusal prints only `refused` and its
 // number."

@@ -6,3 +6,4 @@ pub mod Going
 pub mod Slots
 pub mod Starts
 pub mod Answer
+pub mod Cases

@@ -1,4 +1,5 @@
 pub mod Step
+pub mod Cases
 pub mod Reads
 pub mod Bits
 pub mod Standstill

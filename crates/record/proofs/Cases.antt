@@ -7,11 +7,15 @@ use Rattle.record.specs.Layout.{fieldsFrom}
 use Rattle.record.specs.Rules.{breaksRules, hasUnknown}
 use Rattle.record.specs.Body.{breaksAt, unknownAt, recordOf, bodyOf, lengthRefusal, recordRefusal, unknownRefusal, bodyRefusal, settledRefusal}
 use Rattle.record.specs.Cases.{known, refusalOf, casesAccepted}
-use Rattle.record.specs.Claims.{CasesAccepted, EncodingOfD}
+use Rattle.record.specs.Claims.{CasesAccepted, OnlyLIsUnknown, EncodingOfD}
 
 pub cases-accepted : CasesAccepted
 unfolding _and_ every none cases further _then_ _unless_ fieldsFrom breaksRules hasUnknown breaksAt unknownAt recordOf bodyOf lengthRefusal recordRefusal unknownRefusal bodyRefusal settledRefusal known refusalOf casesAccepted
 cases-accepted = tt
+
+pub only-L-is-unknown : OnlyLIsUnknown
+unfolding _and_ every none cases _then_ _unless_ fieldsFrom breaksRules hasUnknown breaksAt unknownAt recordOf bodyOf lengthRefusal recordRefusal unknownRefusal bodyRefusal settledRefusal
+only-L-is-unknown = refl
 
 pub encoding-of-D : EncodingOfD
 unfolding caseD recordOf bodyOf

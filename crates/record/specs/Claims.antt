@@ -2,19 +2,24 @@
 use Prim.Native.Nat.{ℕ, _≤_, _<_}
 use mathlib.Core.Bool.{false}
 use mathlib.Core.Path.{_≡_}
-use mathlib.Core.List.{List, _++_}
+use mathlib.Core.List.{List, [], _∷_, _++_, map}
 use lib.Dec.{T}
 use lib.ListN.{length}
 use Rattle.machine.specs.Instruction.{Instruction, Trace, instruction}
 use Rattle.machine.specs.Time.{Settling}
 use Rattle.machine.specs.Cases.{cases, further, caseD}
 use Rattle.record.specs.Body.{Bytes, breaksAt, traceOf, recordOf, bodyOf, bodyRefusal, settledRefusal}
+use Rattle.record.specs.Refusal.{unknownFlag}
 use Rattle.record.specs.Cases.{bytesOfD, casesAccepted}
 
 -- Traces are accepted at all: A to L, and the cases that they do not show. Were the rules of a record to refuse everything, what is claimed of
 -- accepted bodies would hold and say nothing.
 abbrev pub CasesAccepted : Type 0
 CasesAccepted = T (casesAccepted (cases ++ further))
+
+-- Of A to L only the last has unknown flags: 11 declines L alone.
+abbrev pub OnlyLIsUnknown : Type 0
+OnlyLIsUnknown = map (λ c. settledRefusal (bodyOf (c .trace))) cases ≡ 0 ∷ 0 ∷ 0 ∷ 0 ∷ 0 ∷ 0 ∷ 0 ∷ 0 ∷ 0 ∷ 0 ∷ 0 ∷ unknownFlag ∷ []
 
 -- The encoding gives D the bytes that document 01 prints.
 abbrev pub EncodingOfD : Type 0

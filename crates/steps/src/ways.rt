@@ -114,7 +114,7 @@ fn exchange(j: u32, k: u32, set: u32, tally: Tally) -> Tally {
     tally
 }
 
-// In the set somebody older than slot k's instruction stands in a later stage up to MEM, or in WB.
+// In the set an instruction older than slot k's stands in a later stage up to MEM, or in WB.
 fn older_stand(set: u32, k: u32) -> bool {
     ((k < ID) & has(set, ID))
         | ((k < EX) & has(set, EX))

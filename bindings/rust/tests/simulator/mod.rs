@@ -231,7 +231,7 @@ pub fn places_of(trace: &[Instruction], s: &Slots) -> Vec<Place> {
     (0..trace.len()).map(place).collect()
 }
 
-/// Document 01's sentence on orderly states; that empty slots carry zeros is for who has such slots.
+/// Document 01's sentence on orderly states; its clause on empty slots is left out, since an empty slot has no index or count here.
 pub fn orderly(trace: &[Instruction], s: &Slots) -> bool {
     if s.fetched > trace.len() || s.held.iter().flatten().any(|h| h.0 >= trace.len()) {
         return false;

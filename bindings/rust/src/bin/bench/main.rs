@@ -11,8 +11,8 @@ use std::hint::black_box;
 
 const N: usize = sic::MAX_INSTRUCTIONS;
 const SHORT: usize = 12;
-/// How many random instructions a call goes through, trace after trace, before it meets the first trace again: few of them, timed
-/// over and over, would be learnt by branch prediction, for which a trace that is seen once gives no time.
+/// How many random instructions a call goes through, trace after trace, before it meets the first trace again: branch
+/// prediction would learn a few of them, timed over and over, and a trace that is seen once is not learnt.
 const RANDOM: usize = 16 * N;
 /// Step checks its whole body in each cycle, so that a few cycles of a long trace tell its cost.
 const STEPS: u32 = 16;

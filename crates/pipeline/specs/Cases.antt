@@ -1,0 +1,13 @@
+-- What Step answers for document 01's case D, as its bytes are printed.
+use mathlib.Core.List.{List, map}
+use mathlib.Core.Path.{_≡_}
+use lib.ListN.{take, drop}
+use Rattle.machine.specs.Cases.{chartOfD}
+use Rattle.record.specs.Cases.{bytesOfD}
+use Rattle.pipeline.specs.Step.{stepAnswer}
+use Rattle.pipeline.specs.declared.stepping.Stepped.{Stepped}
+
+-- From each row of D's chart Step accepts the body and the row, and gives the next row. Were every state refused, the claims on orderly states would
+-- hold all the same.
+abbrev pub StepAnswered : Type 0
+StepAnswered = map (λ s. stepAnswer bytesOfD s) (take 8 chartOfD) ≡ map (λ s. record { refusal = 0; state = s }) (drop 1 chartOfD)
