@@ -148,7 +148,7 @@ sic_state sic_start(void);
 /* Step: the state one cycle on, or the state given. 10, 8, 11, 12. */
 sic_stepped sic_step(const uint8_t *body, size_t body_length, sic_state state);
 
-/* The same in the caller's own storage, where a refused state stays as it was; the refusal number. */
+/* The same in the caller's own storage, where the fields of a refused state stay as they were; the refusal number. */
 uint32_t sic_advance(sic_state *state, const uint8_t *body, size_t body_length);
 
 /* Run: at most `limit` cycles from the start. 10, 8, 11. */
