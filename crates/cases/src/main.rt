@@ -4,7 +4,6 @@
 // run, which the second model does not have.
 mod build;
 mod reads;
-mod report;
 mod runs;
 mod times;
 

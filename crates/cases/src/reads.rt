@@ -6,8 +6,8 @@ use crate::build::part;
 use crate::build::plain;
 use crate::build::two_of;
 use crate::build::unlawful;
-use crate::report::Tally;
 use record::Fields;
+use tally::Tally;
 use viewing::read_through;
 
 fn same_fields(a: Fields, b: Fields) -> bool {

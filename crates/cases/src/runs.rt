@@ -6,12 +6,12 @@ use crate::build::plain;
 use crate::build::record_of;
 use crate::build::registers;
 use crate::build::two_of;
-use crate::report::Tally;
 use machine::Slot;
 use machine::State;
 use pipeline::step;
 use record::Fields;
 use running::run;
+use tally::Tally;
 
 // One instruction, or the first n of its bytes. The two arrays are lent to the second model for its
 // places.

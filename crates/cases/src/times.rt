@@ -10,8 +10,8 @@ use crate::build::record_of;
 use crate::build::registers;
 use crate::build::two_of;
 use crate::build::unlawful;
-use crate::report::Tally;
 use record::Fields;
+use tally::Tally;
 
 const LOAD: u32 = 1;
 

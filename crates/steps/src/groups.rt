@@ -6,7 +6,6 @@ use crate::bases::MEM;
 use crate::bases::SETS;
 use crate::bases::ST;
 use crate::bases::WB;
-use crate::tally::Tally;
 use crate::ways::ABOVE_N;
 use crate::ways::ALL_FETCHED;
 use crate::ways::AS_ENTRY;
@@ -24,6 +23,8 @@ use crate::ways::INDEX_BELOW;
 use crate::ways::LEFT_OUT;
 use crate::ways::NONE_FETCHED;
 use crate::ways::tried;
+use libc::STDOUT_FILENO;
+use tally::Tally;
 
 fn over_sets(way: u32, a: u32, b: u32) -> Tally {
     let mut tally = Tally::new();
@@ -35,8 +36,14 @@ fn over_sets(way: u32, a: u32, b: u32) -> Tally {
     tally
 }
 
+// What was tried and where, before the tally; `at` may be empty.
+fn print_line(what: &[u8], at: &[u8], tally: Tally) {
+    io::write_all(STDOUT_FILENO, what);
+    tally.line(at);
+}
+
 fn line(way: u32, a: u32, what: &[u8], at: &[u8]) {
-    over_sets(way, a, 0).line(what, at);
+    print_line(what, at, over_sets(way, a, 0));
 }
 
 fn up_to_MEM(way: u32, what: &[u8]) {
@@ -70,7 +77,11 @@ pub fn one_slot() {
 }
 
 fn exchanged(j: u32, k: u32, at: &[u8]) {
-    over_sets(EXCHANGED, j, k).line(b"the younger one in the later stage of ", at);
+    print_line(
+        b"the younger one in the later stage of ",
+        at,
+        over_sets(EXCHANGED, j, k),
+    );
 }
 
 pub fn out_of_turn() {

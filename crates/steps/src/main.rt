@@ -5,7 +5,6 @@ mod bases;
 mod groups;
 mod print;
 mod states;
-mod tally;
 mod ways;
 
 ghost use Prim.Native.Nat.{_≤_};

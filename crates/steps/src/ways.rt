@@ -18,12 +18,12 @@ use crate::bases::slot_of;
 use crate::bases::with_fetched;
 use crate::bases::with_slot;
 use crate::states::same_state;
-use crate::tally::Tally;
 use machine::Slot;
 use machine::State;
 use pipeline::step;
 use std::num::wrapping_add_u32;
 use std::num::wrapping_sub_u32;
+use tally::Tally;
 
 // The ways of altering one slot: four of a filled slot, two of an empty one.
 pub const COUNT_ABOVE: u32 = 0;

@@ -7,8 +7,8 @@ use Rattle.cases.proofs.reads.each_read.Reads as reads
 use Rattle.cases.proofs.reads.each_read.Lts as lts
 use Rattle.cases.proofs.build.different.Reads as different-reads
 use Rattle.cases.proofs.reads.reads.Reads as reads-reads
-use Rattle.cases.proofs.report.Tally.and.Reads as and-reads
-use Rattle.cases.proofs.report.Tally.new.Reads as new-reads
+use Rattle.tally.proofs.Tally.and.Reads as and-reads
+use Rattle.tally.proofs.Tally.new.Reads as new-reads
 
 abbrev Inv-loop : tie.InvT-loop
 Inv-loop body tally₀ k₀ tally k = k ≤ 4096

@@ -6,8 +6,8 @@ use Rattle.cases.proofs.times.count_plain.Tie as tie
 use Rattle.cases.proofs.times.count_plain.Reads as reads
 use Rattle.cases.proofs.times.count_plain.Lts as lts
 use Rattle.cases.proofs.build.part.Reads as part-reads
-use Rattle.cases.proofs.report.Tally.and.Reads as and-reads
-use Rattle.cases.proofs.report.Tally.new.Reads as new-reads
+use Rattle.tally.proofs.Tally.and.Reads as and-reads
+use Rattle.tally.proofs.Tally.new.Reads as new-reads
 use Rattle.cases.proofs.times.time_of_plain.Reads as time-of-plain-reads
 
 abbrev Inv-loop : tie.InvT-loop

@@ -14,7 +14,7 @@ use Rattle.pipeline.proofs.stepping.cycle_on.Statement.{statement}
 use Rattle.pipeline.proofs.stepping.cycle_on.Tie as tie
 
 returns : tie.Need-returns
-returns c = refused _ _ (stop _ refl (c .if1 .taken)) (c .if1 .taken)
+returns c = refused _ _ (stop _ refl (λ z. omega (arith, c .if1 .taken, z))) (λ z. omega (arith, c .if1 .taken, z))
 
 records-requires : tie.Need-records-requires
 records-requires c κs = c .before .before .pre (c .if1 .left)

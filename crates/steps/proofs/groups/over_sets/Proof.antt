@@ -5,7 +5,7 @@ use Rattle.steps.proofs.groups.over_sets.Statement.{statement}
 use Rattle.steps.proofs.groups.over_sets.Tie as tie
 use Rattle.steps.proofs.groups.over_sets.Reads as reads
 use Rattle.steps.proofs.groups.over_sets.Lts as lts
-use Rattle.steps.proofs.tally.Tally.new.Reads as new-reads
+use Rattle.tally.proofs.Tally.new.Reads as new-reads
 use Rattle.steps.proofs.ways.tried.Reads as tried-reads
 
 abbrev Inv-loop : tie.InvT-loop

@@ -1,4 +1,4 @@
-// A group of cases: how many were tried, and how many came out as they should.
+// A group of cases in a test program: how many were tried, and how many came out as they should.
 use libc::STDOUT_FILENO;
 
 pub struct Tally {
