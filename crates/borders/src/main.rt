@@ -1,6 +1,6 @@
 // Every refusal of Open, of Write and of the checks on bodies, tried at its exact border and in its
 // order. What is expected stands in the cases, as document 01 says, and is compared with the engine
-// and, but for the bytes and lengths that Write leaves, with the second model, which writes no file.
+// and with the second model, which writes no file, but reads what Write wrote.
 // A line for each group says how many cases it has and how many came out as expected.
 mod build;
 mod files;

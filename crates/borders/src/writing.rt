@@ -152,12 +152,35 @@ fn declined(expected: u32, it: Both) -> Seen {
     }
 }
 
-// What the second model does not tell: it names refusals, and writes no file.
-fn alone(expected: u32, came: u32) -> Seen {
+// A number that no case expects.
+const NONE: u32 = 4294967295;
+
+// The second model writes no file, but it reads what was written: whether these bytes are a file that
+// it accepts.
+fn reads(out: &[u8], length: u32) -> bool {
+    let refusal = model::open_refusal(first(out, length), 0);
+    refusal == 0 || refusal == 9
+}
+
+// The length of the file by the second model: none where it declines the writing, and else that at
+// which it reads the output as a file.
+fn read_length(it: Both, out: &[u8]) -> u32 {
+    if it.model != 0 {
+        return 0;
+    }
+    if reads(out, it.length) {
+        return it.length;
+    }
+    NONE
+}
+
+// What came from a file that the second model has to accept.
+fn judged(expected: u32, came: u32, accepted: bool) -> Seen {
+    let model = if accepted { came } else { NONE };
     Seen {
         expected,
         came,
-        model: expected,
+        model,
     }
 }
 
@@ -188,14 +211,23 @@ pub fn written(k: u32, file: &mut [u8], out: &mut [u8]) -> Seen {
 
 pub fn written_length(k: u32, file: &mut [u8], out: &mut [u8]) -> Seen {
     let case = case_of(k);
-    alone(case.length, do_write(case, file, out).length)
+    let it = do_write(case, file, out);
+    Seen {
+        expected: case.length,
+        came: it.length,
+        model: read_length(it, out),
+    }
 }
 
 // How many bytes past the file, or of the whole output on a refusal, do not keep their values.
 pub fn kept_bytes(k: u32, file: &mut [u8], out: &mut [u8]) -> Seen {
     let case = case_of(k);
-    let _ = do_write(case, file, out);
-    alone(0, changed(out, case.length, case.room, BEFORE))
+    let it = do_write(case, file, out);
+    Seen {
+        expected: 0,
+        came: changed(out, case.length, case.room, BEFORE),
+        model: changed(out, read_length(it, out), case.room, BEFORE),
+    }
 }
 
 // Each of 16 counts is 4,097 in turn.
@@ -233,7 +265,7 @@ pub fn file_bytes(k: u32, out: &mut [u8]) -> Seen {
         b"\x01\x00\x08\x00\x00\x00\x02\x00\x01\x00\x00\x00\x01\x00\x01\x00\x01\x00\x00\x00\x01\x00\x02\x00\x01\x00\x00\x00";
     let counts = [2u16];
     let _ = write_to(&counts, between(d, 8, 28), out, 28);
-    alone(byte(d, k) as u32, byte(out, k) as u32)
+    judged(byte(d, k) as u32, byte(out, k) as u32, reads(out, 28))
 }
 
 // The table of the longest file: its offsets are 26, 25,536, 45,536 and 65,536.
@@ -259,10 +291,18 @@ pub fn longest_bytes(k: u32, file: &mut [u8], out: &mut [u8]) -> Seen {
         return declined(0, do_write(case_of(12), file, out));
     }
     if k < 25 {
-        return alone(entry_byte(k - 1), byte(out, 1 + k) as u32);
+        return judged(
+            entry_byte(k - 1),
+            byte(out, 1 + k) as u32,
+            reads(out, 65536),
+        );
     }
     if k == 25 {
-        return alone(4, byte(out, 0) as u32);
+        return judged(4, byte(out, 0) as u32, reads(out, 65536));
     }
-    alone(1, same(between(out, 26, 65536), first(file, 65510)))
+    judged(
+        1,
+        same(between(out, 26, 65536), first(file, 65510)),
+        reads(out, 65536),
+    )
 }
