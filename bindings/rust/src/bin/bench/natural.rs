@@ -223,7 +223,7 @@ fn at(body: &[u8], k: u32) -> Instruction {
     body.get(at..at + 10).map_or(read(&[0; 10]), read)
 }
 
-/// The place, with count 0, up to which others may wait for it.
+/// Whether it is still short of the place up to which others may wait for it.
 fn pending(i: &Instruction, level: u32, count: u32) -> bool {
     let goal = match i.kind {
         LOAD => 4,
