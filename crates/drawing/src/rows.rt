@@ -9,7 +9,8 @@ ghost use Rattle.text.specs.Text.{Wrote};
 ghost use Rattle.drawing.specs.Chart.{slotText, rowText, rowsText};
 use machine::Slot;
 use machine::State;
-use pipeline::next_worst;
+use running::run_settled;
+use schedule::MISS;
 use text::put_byte;
 use text::put_decimal;
 
@@ -45,12 +46,11 @@ pub(crate) fn put_rows(body: &[u8], out: &mut [u8], at: usize, last: u32) -> usi
     requires { ⌜ (bodyRefusal (now body) ≡ 0) × (last ≤ 1000) × (at + 143143 ≤ length (now out)) ⌝ }
     ensures { λ r. ⌜ Wrote at (rowsText (settle miss (traceOf (now (body .entry)))) (suc last)) (now (out .entry)) (now (out .exit)) r ⌝ }
 {
-    let mut s = State::start();
     let mut next = at;
     let mut cycle = 0;
     while cycle <= last {
-        next = put_row(out, next, cycle, s);
-        s = next_worst(body, s);
+        let ran = run_settled(body, MISS, cycle);
+        next = put_row(out, next, cycle, ran.state);
         cycle += 1;
     }
     next

@@ -1,6 +1,5 @@
 pub mod Numbers
 pub mod Joined
-pub mod Instructions
 pub mod Entry
 pub mod Going
 pub mod Slots

@@ -2,12 +2,9 @@
 // them: kinds, flags and counts on entry.
 ghost use mathlib.Core.Path.{_≡_};
 ghost use mathlib.Core.Bool.{true};
-ghost use mathlib.Core.List.{List};
 ghost use Prim.Native.Nat.{_-_};
-ghost use Rattle.machine.specs.Instruction.{Trace, instruction, miss};
+ghost use Rattle.machine.specs.Instruction.{instruction};
 ghost use Rattle.machine.specs.Rules.{IF, MEM, ST, entry, missesData};
-ghost use Rattle.machine.specs.Time.{settle};
-ghost use Rattle.machine.specs.declared.State.{State};
 ghost use Rattle.record.specs.Rules.{instructionOf};
 ghost use Rattle.record.specs.Body.{traceOf};
 ghost use Rattle.pipeline.specs.Reads.{Reads};
@@ -15,7 +12,7 @@ use machine::Slot;
 use machine::State;
 use record::Fields;
 use record::fields_at;
-use schedule::settle_fields;
+use record::no_fields;
 
 // The numbers of the kinds and flags.
 pub(crate) const LOAD: u32 = 1;
@@ -53,17 +50,7 @@ fn held_fields(body: &[u8], held: Slot) -> Fields
     if held.filled {
         return fields(body, held.index);
     }
-    Fields {
-        kind: 0,
-        fetch: 0,
-        access: 0,
-        source1: 0,
-        source2: 0,
-        target: 0,
-        execution: 0,
-        fetch_latency: 0,
-        data_latency: 0,
-    }
+    no_fields()
 }
 
 pub(crate) fn read_stages(body: &[u8], s: State) -> Standing
@@ -77,21 +64,6 @@ pub(crate) fn read_stages(body: &[u8], s: State) -> Standing
         MEM: fields(body, s.MEM.index),
         ST: held_fields(body, s.ST),
         WB: held_fields(body, s.WB),
-    }
-}
-
-// The same fields, unknown flags taken as misses.
-pub(crate) fn with_misses(w: Standing) -> Standing
-    ensures { λ r. ⌜ ((trace : Trace) → (s : State) → Reads trace s w → Reads (settle miss trace) s r) ⌝ }
-{
-    Standing {
-        pre: settle_fields(w.pre, MISS),
-        IF: settle_fields(w.IF, MISS),
-        ID: settle_fields(w.ID, MISS),
-        EX: settle_fields(w.EX, MISS),
-        MEM: settle_fields(w.MEM, MISS),
-        ST: settle_fields(w.ST, MISS),
-        WB: settle_fields(w.WB, MISS),
     }
 }
 

@@ -5,19 +5,16 @@ ghost use Prim.Native.Nat.{suc, _≤_};
 ghost use lib.Dec.{ltb, eqb};
 ghost use lib.ListN.{length};
 ghost use Rattle.machine.specs.Test.{_and_};
-ghost use Rattle.machine.specs.Instruction.{Trace, instruction, miss};
+ghost use Rattle.machine.specs.Instruction.{Trace, instruction};
 ghost use Rattle.machine.specs.Rules.{pre};
-ghost use Rattle.machine.specs.State.{orderly};
-ghost use Rattle.machine.specs.Time.{settle};
 ghost use Rattle.machine.proofs.Stages.{stageAt};
 ghost use Rattle.machine.proofs.BySlots.{heldBack, occupied, storeInMEM, leaves, slotAfter, stepBySlots};
 ghost use Rattle.record.specs.Rules.{instructionOf};
-ghost use Rattle.record.specs.Refusal.{_then_, _unless_};
 ghost use Rattle.record.specs.Body.{traceOf, lengthRefusal};
 ghost use Rattle.pipeline.specs.Reads.{Reads};
 ghost use Rattle.pipeline.specs.Bits.{bitsOf, pendingIn, opens, starts};
 ghost use Rattle.pipeline.specs.Standstill.{standstill};
-ghost use Rattle.pipeline.specs.Step.{notOrderly, onward, stepAnswer};
+ghost use Rattle.pipeline.specs.Step.{stepAnswer};
 use crate::hazards::held_back;
 use crate::hazards::pending_slots;
 use crate::moving::Bits;
@@ -32,7 +29,6 @@ use crate::reading::entry_MEM;
 use crate::reading::entry_ST;
 use crate::reading::less_one;
 use crate::reading::read_stages;
-use crate::reading::with_misses;
 use crate::refusal::NOT_ORDERLY;
 use machine::Slot;
 use machine::State;
@@ -216,12 +212,11 @@ fn records(body: &[u8]) -> u32
     (body.len() / RECORD_SIZE) as u32
 }
 
-// The state one cycle on, unknown flags taken as misses, where the body's own refusal is none and
-// the state is orderly.
-pub(crate) fn cycle_on(fault: u32, body: &[u8], s: State) -> Stepped
-    requires { ⌜ (fault ≡ 0 → lengthRefusal (now body) ≡ 0) ⌝ }
-    ensures { λ r. ⌜ r ≡ onward (fault then (notOrderly unless orderly (settle miss (traceOf (now (body .entry)))) s)) (settle miss (traceOf (now (body .entry)))) s ⌝ }
+// The refusals in their order, else the cycle; a refusal gives the given state back.
+pub fn step(body: &[u8], s: State) -> Stepped
+    ensures { λ r. ⌜ r ≡ stepAnswer (now (body .entry)) s ⌝ }
 {
+    let fault = settled_refusal(body);
     if fault != 0 {
         return Stepped {
             refusal: fault,
@@ -229,7 +224,7 @@ pub(crate) fn cycle_on(fault: u32, body: &[u8], s: State) -> Stepped
         };
     }
     let n = records(body);
-    let w = with_misses(read_stages(body, s));
+    let w = read_stages(body, s);
     if orderly(n, s, w) {
         return Stepped {
             refusal: 0,
@@ -240,11 +235,4 @@ pub(crate) fn cycle_on(fault: u32, body: &[u8], s: State) -> Stepped
         refusal: NOT_ORDERLY,
         state: s,
     }
-}
-
-// A body that Step accepts has no unknown flags.
-pub fn step(body: &[u8], s: State) -> Stepped
-    ensures { λ r. ⌜ r ≡ stepAnswer (now (body .entry)) s ⌝ }
-{
-    cycle_on(settled_refusal(body), body, s)
 }

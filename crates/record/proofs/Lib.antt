@@ -3,6 +3,7 @@ pub mod Accepted
 pub mod Cases
 pub mod Encoding
 pub mod Fits
+pub mod Instructions
 pub mod Limits
 pub mod Numbers
 pub mod Refusals

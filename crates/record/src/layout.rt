@@ -3,7 +3,7 @@ ghost use mathlib.Core.Path.{_≡_};
 ghost use Prim.Native.Nat.{_+_, _≤_};
 ghost use lib.ListN.{length};
 ghost use Rattle.record.specs.Layout.{recordSize, fieldsFrom};
-ghost use Rattle.record.specs.Body.{readAnswer};
+ghost use Rattle.record.specs.Body.{noFields, readAnswer};
 use crate::refusal::OUT_OF_RANGE;
 use little_endian::byte_at;
 use little_endian::half_at;
@@ -66,16 +66,11 @@ pub(crate) fn fields_from(bytes: &[u8], at: usize) -> Fields
     }
 }
 
-// The fields of instruction k, whether or not the bytes were checked.
-pub fn fields_at(body: &[u8], k: u32) -> Read
-    ensures { λ r. ⌜ r ≡ readAnswer (now (body .entry)) k ⌝ }
+// All zeros, where there is no instruction.
+pub fn no_fields() -> Fields
+    ensures { λ r. ⌜ r ≡ noFields ⌝ }
 {
-    let i = k as usize;
-    if i < body.len() / RECORD_SIZE {
-        let fields = fields_from(body, i * RECORD_SIZE);
-        return Read { refusal: 0, fields };
-    }
-    let fields = Fields {
+    Fields {
         kind: 0,
         fetch: 0,
         access: 0,
@@ -85,7 +80,19 @@ pub fn fields_at(body: &[u8], k: u32) -> Read
         execution: 0,
         fetch_latency: 0,
         data_latency: 0,
-    };
+    }
+}
+
+// The fields of instruction k, whether or not the bytes were checked.
+pub fn fields_at(body: &[u8], k: u32) -> Read
+    ensures { λ r. ⌜ r ≡ readAnswer (now (body .entry)) k ⌝ }
+{
+    let i = k as usize;
+    if i < body.len() / RECORD_SIZE {
+        let fields = fields_from(body, i * RECORD_SIZE);
+        return Read { refusal: 0, fields };
+    }
+    let fields = no_fields();
     Read {
         refusal: OUT_OF_RANGE,
         fields,

@@ -11,3 +11,4 @@ pub use body::settled_refusal;
 pub use layout::Fields;
 pub use layout::Read;
 pub use layout::fields_at;
+pub use layout::no_fields;

@@ -1,10 +1,9 @@
 -- The state that places give, one instruction after the other: the pass starts from the starting state, adds one instruction at its place, and
 -- ends with the state of all places.
-use Prim.Native.Nat.{ℕ, zero, suc, _+_, _≤_}
-use mathlib.Core.Bool.{Bool, true, false, cond}
+use Prim.Native.Nat.{ℕ, suc, _+_}
+use mathlib.Core.Bool.{true, cond}
 use mathlib.Core.Path.{_≡_, refl}
 use native.Mathlib.Numerals.{add-one}
-use native.Mathlib.Omega.{arith}
 use lib.ListN.{length}
 use Rattle.machine.specs.Instruction.{Trace}
 use Rattle.machine.specs.Rules.{Stage, pre, IF, ID, EX, MEM, ST, WB, post, Places, same}
@@ -35,10 +34,6 @@ grown k count s ST = refl
 grown k count s WB = refl
 grown k count s post = refl
 
-counted : (in-pre : Bool) (n k : ℕ) → n ≤ k → cond in-pre n (suc n) ≤ suc k
-counted true n k l = omega arith
-counted false n k l = omega arith
-
 module _ (places : Places) where
   pub state-starts : stateBelow places 0 ≡ start
   unfolding stateBelow fetchedBelow occupantBelow
@@ -51,9 +46,3 @@ module _ (places : Places) where
   pub state-ends : (trace : Trace) → stateBelow places (length trace) ≡ stateOf trace places
   unfolding stateBelow stateOf
   state-ends trace = refl
-
-  -- at most k of the first k instructions are fetched
-  pub fetched-below : (k : ℕ) → fetchedBelow places k ≤ k
-  unfolding fetchedBelow
-  fetched-below zero = omega arith
-  fetched-below (suc k) = counted (same (places k .stage) pre) (fetchedBelow places k) k (fetched-below k)

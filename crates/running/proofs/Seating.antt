@@ -12,10 +12,10 @@ use lib.ListN.{length, getD, set, drop, length-set}
 use Rattle.machine.specs.Instruction.{Instruction}
 use Rattle.machine.specs.Rules.{Stage, pre, IF, ID, EX, MEM, ST, WB, post, Place, isStore, entry}
 use Rattle.machine.proofs.Stages.{level}
-use Rattle.machine.proofs.Window.{Times, Window, lastCount, placeAt, timesFrom, enterID, enterEX, enterMEM, enterLast, enterPost}
+use Rattle.machine.proofs.Window.{Times, lastCount, placeAt}
 use Rattle.schedule.specs.Code.{numbered}
 use Rattle.schedule.specs.declared.places.Place as Code
-use Rattle.schedule.proofs.Cases.{in-pre, in-post}
+use Rattle.schedule.proofs.Cases.{in-post}
 use Rattle.running.specs.Placing.{fetchedWith, slotWith, stateWith, slotOf, slotSeated, stateSeated, Seated, Rising}
 
 -- a list written out element by element
@@ -71,22 +71,14 @@ within i e t fetched h =
 pub within-seats : (i : Instruction) (e : Times) (t : ℕ) → e .IF ≤ t → t < e .post → {p : Code.Place} → p ≡ numbered (placeAt i e t) → p .level ≤ 6
 within-seats i e t fetched h q = rw q (within i e t fetched h .high)
 
--- none of an instruction's times is later than that of leaving
-pub rises : (w : Window) (i : Instruction) {e : Times} → e ≡ timesFrom w i → Rising e
-unfolding timesFrom enterID enterEX enterMEM enterLast enterPost
-rises w i p = rw p (record { IF = omega arith; ID = omega arith; EX = omega arith; MEM = omega arith; last = omega arith })
-
--- the numbers with one more fetched, and then with instruction k seated
-abbrev counted : List ℕ → List ℕ
-counted l = set l 0 (suc (getD l 0 0))
-
+-- the numbers with instruction k seated
 abbrev placed : List ℕ → ℕ → ℕ → ℕ → List ℕ
-placed l k at count = set (set (counted l) at (suc k)) (6 + at) count
+placed l k at count = set (set l at (suc k)) (6 + at) count
 
 module _ (k : ℕ) (l : List ℕ) (long : length l ≡ 13) where
   -- the state that the changed numbers give: shown for a list that is written out, and so for every list of that length
   abbrev Gives : Place → (List ℕ → List ℕ) → List ℕ → Type 0
-  Gives p changed l = stateSeated (changed l) ≡ stateWith (numbered p) k (stateSeated l)
+  Gives p changed l = stateSeated (changed l) (suc k) ≡ stateWith (numbered p) k (stateSeated l k)
 
   grown : (stage : Stage) (count : ℕ) →
       Within (record { stage = stage; count = count }) →
@@ -101,44 +93,27 @@ module _ (k : ℕ) (l : List ℕ) (long : length l ≡ 13) where
   grown WB count h = over (Gives (record { stage = WB; count = count }) (λ l. placed l k (level WB) count)) l long refl
   grown post count h = absurd (omega (arith, h .high))
 
-  none : Gives (record { stage = pre; count = 0 }) (λ l. l) l
-  unfolding stateWith fetchedWith slotWith
-  none = refl
-
-  gone : Gives (record { stage = post; count = 0 }) counted l
-  unfolding stateSeated slotSeated stateWith fetchedWith slotWith
-  gone = over (Gives (record { stage = post; count = 0 }) counted) l long refl
+  gone : Gives (record { stage = post; count = 0 }) (λ l. l) l
+  unfolding stateSeated stateWith fetchedWith slotWith
+  gone = refl
 
   module _ (i : Instruction) (e : Times) (t : ℕ) where
     abbrev place : Code.Place
     place = numbered (placeAt i e t)
 
-    with-place : {p : Code.Place} → p ≡ place → stateWith p k (stateSeated l) ≡ stateWith place k (stateSeated l)
-    with-place q = ap (λ (p : Code.Place). stateWith p k (stateSeated l)) q
-
-    pub seat-pre : t < e .IF → Seated l (stateWith place k (stateSeated l))
-    seat-pre h = record { long = long; state = none ∙ with-place (in-pre i e t h) }
-
-    pub seat-post : Rising e → e .IF ≤ t → e .post ≤ t → Seated (set l 0 (getD l 0 0 + 1)) (stateWith place k (stateSeated l))
+    pub seat-post : Rising e → e .IF ≤ t → e .post ≤ t → Seated l (k + 1) (stateWith place k (stateSeated l k))
     seat-post r fetched h =
-        record {
-          long = length-set l 0 _ ∙ long;
-          state =
-              rw (add-one (getD l 0 0))
-              (gone
-              ∙ with-place
-              (in-post i e t fetched (omega (arith, r .ID)) (omega (arith, r .EX)) (omega (arith, r .MEM)) (omega (arith, r .last)) h));
-        }
+        let left = in-post i e t fetched (omega (arith, r .ID)) (omega (arith, r .EX)) (omega (arith, r .MEM)) (omega (arith, r .last)) h in
+        record { long = long; state = rw (add-one k) (gone ∙ ap (λ (p : Code.Place). stateWith p k (stateSeated l k)) left) }
 
     pub seat-slot
         : e .IF ≤ t →
         t < e .post →
         {p : Code.Place} →
         p ≡ place →
-        Seated (set (set (set l 0 (getD l 0 0 + 1)) (p .level) (k + 1)) (6 + p .level) (p .count)) (stateWith place k (stateSeated l))
+        Seated (set (set l (p .level) (k + 1)) (6 + p .level) (p .count)) (k + 1) (stateWith place k (stateSeated l k))
     seat-slot fetched h q =
         record {
           long = simp length-set long;
-          state =
-              rw (q, add-one (getD l 0 0), add-one k) (grown (placeAt i e t .stage) (placeAt i e t .count) (within i e t fetched h));
+          state = rw (q, add-one k) (grown (placeAt i e t .stage) (placeAt i e t .count) (within i e t fetched h));
         }

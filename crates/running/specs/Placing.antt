@@ -1,20 +1,19 @@
 -- What Run's pass keeps after each instruction, for the pass's own functions; no public contract cites it.
-use Prim.Native.Nat.{ℕ, zero, suc, _+_, _≤_}
+use Prim.Native.Nat.{ℕ, zero, suc, _+_, _≤_, _<_}
 use mathlib.Core.Bool.{true, cond}
-use mathlib.Core.List.{List, _∷_}
+use mathlib.Core.List.{List}
 use mathlib.Core.Path.{_≡_}
 use lib.Dec.{eqb}
-use lib.ListN.{length, getD, replicate}
+use lib.ListN.{length, getD}
+use Rattle.machine.specs.Instruction.{Trace}
 use Rattle.machine.specs.Rules.{Places, pre, IF, ID, EX, MEM, ST, WB, after}
 use Rattle.machine.specs.State.{emptySlot, fetchedBelow, occupantBelow}
 use Rattle.machine.specs.declared.Slot.{Slot}
 use Rattle.machine.specs.declared.State.{State}
 use Rattle.machine.proofs.Stages.{level}
 use Rattle.machine.proofs.Window.{Times, windowBefore}
-use Rattle.record.specs.Body.{traceOf}
-use Rattle.schedule.specs.Code.{windowOf}
-use Rattle.schedule.specs.declared.levels.Window.{Window}
 use Rattle.schedule.specs.declared.places.Place.{Place}
+use Rattle.running.specs.declared.running.Fetched.{Fetched}
 
 -- a state with instruction k added at its place
 unfoldable pub fetchedWith : Place → ℕ → ℕ
@@ -53,15 +52,14 @@ abbrev pub slotOf : ℕ → ℕ → Slot
 slotOf zero count = emptySlot
 slotOf (suc k) count = record { filled = true; index = k; count = count }
 
--- the state as the pass keeps it, in thirteen numbers: the fetched count, then the first number of the slot at each level from 1 to 6, then the
--- second numbers
+-- the slots as the pass keeps them, in thirteen numbers: at each level from 1 to 6 the first number of its slot, and six further on the second
 unfoldable pub slotSeated : List ℕ → ℕ → Slot
 slotSeated seats at = slotOf (getD seats at 0) (getD seats (6 + at) 0)
 
-unfoldable pub stateSeated : List ℕ → State
-stateSeated seats =
+unfoldable pub stateSeated : List ℕ → ℕ → State
+stateSeated seats fetched =
     record {
-      fetched = getD seats 0 0;
+      fetched = fetched;
       IF = slotSeated seats (level IF);
       ID = slotSeated seats (level ID);
       EX = slotSeated seats (level EX);
@@ -70,14 +68,21 @@ stateSeated seats =
       WB = slotSeated seats (level WB);
     }
 
--- the thirteen numbers when the first k instructions have left and no other is fetched
-abbrev pub leftSeats : ℕ → List ℕ
-leftSeats k = k ∷ replicate 12 0
-
--- there are thirteen numbers, and they give the state
-pub record Seated (seats : List ℕ) (s : State) : Type 0 where
+-- there are thirteen numbers, and with the fetched count they give the state
+pub record Seated (seats : List ℕ) (fetched : ℕ) (s : State) : Type 0 where
   pub long : length seats ≡ 13
-  pub state : stateSeated seats ≡ s
+  pub state : stateSeated seats fetched ≡ s
+
+-- the pass over a trace has come to instruction k: of those before, which are fetched by the limit, it has seated the ones under way
+abbrev pub Passed : Trace → ℕ → ℕ → List ℕ → Type 0
+Passed trace limit k seats = Seated seats k (stateBelow (after trace limit) k)
+
+-- the pass has ended: there is no further instruction, or the next is not fetched by the limit
+pub record Stopped (trace : Trace) (limit : ℕ) (r : Fetched) (seats : List ℕ) : Type 0 where
+  pub passed : Passed trace limit (r .count) seats
+  pub finish : r .finish ≡ windowBefore trace (r .count) .finish
+  pub inside : r .count ≤ length trace
+  pub waits : r .count < length trace → after trace limit (r .count) .stage ≡ pre
 
 -- no time is later than that of leaving
 pub record Rising (e : Times) : Type 0 where
@@ -86,8 +91,3 @@ pub record Rising (e : Times) : Type 0 where
   pub EX : e .EX ≤ e .post
   pub MEM : e .MEM ≤ e .post
   pub last : e .last ≤ e .post
-
--- the pass over a body has come to instruction k
-pub record Passed (body : List ℕ) (limit k : ℕ) (w : Window) (seats : List ℕ) : Type 0 where
-  pub window : windowOf w ≡ windowBefore (traceOf body) k
-  pub state : Seated seats (stateBelow (after (traceOf body) limit) k)

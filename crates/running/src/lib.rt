@@ -4,3 +4,4 @@ mod seats;
 
 pub use running::Ran;
 pub use running::run;
+pub use running::run_settled;

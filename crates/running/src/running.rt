@@ -2,19 +2,22 @@
 // at the limit from their times, and no cycle is simulated: the pass skips those that have left by
 // then, seats the few that are under way, and ends with the first that is not fetched by then.
 ghost use mathlib.Core.Path.{_≡_};
-ghost use Prim.Native.Nat.{_+_, _≤_, _<_, min};
-ghost use Rattle.record.specs.Body.{records, traceOf, bodyRefusal};
+ghost use Prim.Native.Nat.{min};
+ghost use lib.ListN.{replicate};
+ghost use Rattle.machine.specs.Time.{settle};
+ghost use Rattle.record.specs.Rules.{flagOf};
+ghost use Rattle.record.specs.Body.{traceOf, bodyRefusal};
 ghost use Rattle.running.specs.Run.{ranFor, runAnswer};
-ghost use Rattle.running.specs.Placing.{leftSeats, Passed};
+ghost use Rattle.running.specs.Placing.{Stopped};
 use crate::seats::SEATS;
 use crate::seats::seat;
 use crate::seats::seated;
 use machine::State;
-use record::fields_at;
 use record::layout::RECORD_SIZE;
 use record::settled_refusal;
-use schedule::Window;
+use schedule::HIT;
 use schedule::no_window;
+use schedule::settled_at;
 use schedule::slide;
 use schedule::times_from;
 
@@ -34,74 +37,67 @@ fn smaller(a: u32, b: u32) -> u32
     if a < b { a } else { b }
 }
 
-// One step of the pass: instruction k's times from the window, and its place at the limit.
-fn pass_over(body: &[u8], limit: u32, k: u32, w: Window, seats: &mut [u32; SEATS]) -> Window
-    requires { ⌜ (bodyRefusal (now body) ≡ 0) × (k < records (now body)) × Passed (now body) limit k w (now seats) ⌝ }
-    ensures { λ r. ⌜ Passed (now (body .entry)) limit (k + 1) r (now (seats .exit)) ⌝ }
-{
-    let read = fields_at(body, k);
-    let f = read.fields;
-    let e = times_from(w, f);
-    seat(seats, f, e, limit, k);
-    slide(w, f, e)
-}
-
-// How many instructions, counted from the first without a gap, have left by a limit, and the window
-// before the next.
-struct Gone {
+// How many instructions are fetched by a limit, and when all of these have left.
+struct Fetched {
     count: u32,
-    window: Window,
+    finish: u32,
 }
 
-fn gone_by(body: &[u8], limit: u32) -> Gone
-    requires { ⌜ bodyRefusal (now body) ≡ 0 ⌝ }
-    ensures { λ r. ⌜ (r .count ≤ records (now (body .entry))) × Passed (now (body .entry)) limit (r .count) (r .window) (leftSeats (r .count)) ⌝ }
+// The pass over an accepted body whose unknown flags become the flag `to`: it seats the instructions
+// that are under way at the limit, and ends with the first that is not fetched by then.
+fn pass(body: &[u8], to: u32, limit: u32, seats: &mut [u32; SEATS]) -> Fetched
+    requires { ⌜ (bodyRefusal (now body) ≡ 0) × (now seats ≡ replicate 13 0) ⌝ }
+    ensures { λ r. ⌜ Stopped (settle (flagOf to) (traceOf (now (body .entry)))) limit r (now (seats .exit)) ⌝ }
 {
     let records = (body.len() / RECORD_SIZE) as u32;
     let mut w = no_window();
     let mut k = 0;
     while k < records {
-        let read = fields_at(body, k);
-        let f = read.fields;
+        let f = settled_at(body, to, k);
         let e = times_from(w, f);
-        if limit < e.post {
-            return Gone {
+        if limit < e.IF {
+            return Fetched {
                 count: k,
-                window: w,
+                finish: w.finish,
             };
         }
+        seat(seats, f, e, limit, k);
         w = slide(w, f, e);
         k += 1;
     }
-    Gone {
+    Fetched {
         count: k,
-        window: w,
+        finish: w.finish,
     }
 }
 
-fn run_accepted(body: &[u8], limit: u32) -> Ran
+// The run of an accepted body whose unknown flags become the flag `to`; where not all are fetched
+// by the limit, it goes on beyond it. An inner function: a chart takes its rows from it, with unknown
+// flags as misses.
+pub fn run_settled(body: &[u8], to: u32, limit: u32) -> Ran
     requires { ⌜ bodyRefusal (now body) ≡ 0 ⌝ }
-    ensures { λ r. ⌜ r ≡ ranFor (traceOf (now (body .entry))) limit ⌝ }
+    ensures { λ r. ⌜ r ≡ ranFor (settle (flagOf to) (traceOf (now (body .entry)))) limit ⌝ }
 {
-    let records = (body.len() / RECORD_SIZE) as u32;
-    let gone = gone_by(body, limit);
-    let mut w = gone.window;
-    let mut k = gone.count;
     let mut seats = [0u32; SEATS];
-    seats[0] = k;
-    while k < records && seats[0] == k {
-        w = pass_over(body, limit, k, w, &mut seats);
-        k += 1;
+    let fetched = pass(body, to, limit, &mut seats);
+    let state = seated(&seats, fetched.count);
+    if (fetched.count as usize) < body.len() / RECORD_SIZE {
+        return Ran {
+            refusal: 0,
+            state,
+            cycles: limit,
+            left: false,
+        };
     }
-    let finish = w.finish;
     Ran {
         refusal: 0,
-        state: seated(&seats),
-        cycles: smaller(limit, finish),
-        left: finish <= limit,
+        state,
+        cycles: smaller(limit, fetched.finish),
+        left: fetched.finish <= limit,
     }
 }
 
+// A body that Run accepts has no unknown flags, so either flag will do.
 pub fn run(body: &[u8], limit: u32) -> Ran
     ensures { λ r. ⌜ r ≡ runAnswer (now (body .entry)) limit ⌝ }
 {
@@ -115,5 +111,5 @@ pub fn run(body: &[u8], limit: u32) -> Ran
             left: false,
         };
     }
-    run_accepted(body, limit)
+    run_settled(body, HIT, limit)
 }

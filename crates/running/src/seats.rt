@@ -1,10 +1,10 @@
-// The state that Run's pass builds, as numbers in one array that is lent to the pass: a State
-// carried by value through the loop would be copied with the padding of its six slots. First comes
-// the fetched count; then, for each level from IF 1 to WB 6, one more than the index of the
-// instruction there, or 0 if there is none; then their counts.
+// The slots of the state that Run's pass builds, as numbers in one array that is lent to the pass: a
+// State carried by value through the loop would be copied with the padding of its six slots. At each
+// level from IF 1 to WB 6 stands one more than the index of the instruction there, or 0 if there is
+// none; six further on stands its count.
 ghost use mathlib.Core.Path.{_≡_};
 ghost use Prim.Native.Nat.{_+_, _<_, _≤_, _^_};
-ghost use lib.ListN.{getD, length};
+ghost use lib.ListN.{length};
 ghost use Rattle.machine.proofs.Window.{placeAt};
 ghost use Rattle.record.specs.Rules.{instructionOf};
 ghost use Rattle.schedule.specs.Code.{timesOf, numbered};
@@ -26,16 +26,12 @@ pub(crate) const SEATS: usize = 13;
 // How far after a seat its count is.
 const COUNTS: usize = 6;
 
-// Adds instruction k: it is counted unless it is in pre, and seated if it is in a slot. Most
-// instructions are in pre or post, which their first and last times tell without computing a place.
+// Seats instruction k, which is fetched by the limit, unless it has left by then. Most have, which
+// their last time tells without computing a place.
 pub(crate) fn seat(seats: &mut [u32; SEATS], f: Fields, e: Times, limit: u32, k: u32)
-    requires { ⌜ (length (now seats) ≡ 13) × Rising (timesOf e) × (getD (now seats) 0 0 + 1 < 2 ^ 32) × (k + 1 < 2 ^ 32) ⌝ }
-    ensures { λ _. ⌜ Seated (now (seats .exit)) (stateWith (numbered (placeAt (instructionOf f) (timesOf e) limit)) k (stateSeated (now (seats .entry)))) ⌝ }
+    requires { ⌜ (length (now seats) ≡ 13) × Rising (timesOf e) × (e .IF ≤ limit) × (k + 1 < 2 ^ 32) ⌝ }
+    ensures { λ _. ⌜ Seated (now (seats .exit)) (k + 1) (stateWith (numbered (placeAt (instructionOf f) (timesOf e) limit)) k (stateSeated (now (seats .entry)) k)) ⌝ }
 {
-    if limit < e.IF {
-        return;
-    }
-    seats[0] = seats[0] + 1;
     if limit < e.post {
         let p = place_at(f, e, limit);
         let at = p.level as usize;
@@ -64,11 +60,11 @@ fn slot_at(seats: &[u32; SEATS], level: u32) -> Slot
     }
 }
 
-pub(crate) fn seated(seats: &[u32; SEATS]) -> State
-    ensures { λ r. ⌜ r ≡ stateSeated (now (seats .entry)) ⌝ }
+pub(crate) fn seated(seats: &[u32; SEATS], fetched: u32) -> State
+    ensures { λ r. ⌜ r ≡ stateSeated (now (seats .entry)) fetched ⌝ }
 {
     State {
-        fetched: seats[0],
+        fetched,
         IF: slot_at(seats, IF),
         ID: slot_at(seats, ID),
         EX: slot_at(seats, EX),

@@ -1,6 +1,6 @@
 -- What a pass over an accepted body needs: the trace's bound is within the limit, and record k, read with its unknown flags settled, gives
 -- instruction k of the settled trace.
-use Prim.Native.Nat.{ℕ, zero, suc, _≤_, _<_}
+use Prim.Native.Nat.{ℕ, zero, suc, _+_, _≤_, _<_}
 use mathlib.Core.List.{List}
 use mathlib.Core.Bool.{true, false}
 use mathlib.Core.Logic.{inl, inr}
@@ -8,13 +8,15 @@ use mathlib.Core.Path.{_≡_, refl, sym, ap, subst, _∙_}
 use native.Mathlib.Omega.{arith}
 use borrow.Author.Tests.{lt-ltb, eqb-true}
 use lib.ListN.{length}
-use Rattle.machine.specs.Instruction.{Flag, Instruction, instruction}
+use Rattle.machine.specs.Instruction.{Flag, Instruction, Trace, instruction}
 use Rattle.machine.specs.Rules.{isLoad, isStore}
 use Rattle.machine.specs.Test.{_or_}
 use Rattle.machine.specs.Time.{bound, settleFlag, settleInstruction, settle}
 use Rattle.machine.proofs.Bounds.{Limited, bound-limited}
 use Rattle.machine.proofs.Connectives.{clash}
 use Rattle.machine.proofs.Finish.{finish-bounded}
+use Rattle.machine.proofs.Window.{Window, Times, timesFrom, slide, windowBefore, timesAt}
+use Rattle.machine.proofs.WindowBounds.{TimesWithin}
 use Rattle.record.specs.declared.layout.Fields.{Fields}
 use Rattle.record.specs.declared.layout.Read.{Read}
 use Rattle.record.specs.Rules.{kindOf, flagOf, instructionOf}
@@ -22,8 +24,9 @@ use Rattle.record.specs.Body.{Bytes, records, fieldsAt, traceOf, bodyRefusal, r
 use Rattle.record.proofs.Accepted.{few-records, fields-within}
 use Rattle.record.proofs.Encoding.{length-traceOf, instruction-traceOf}
 use Rattle.record.proofs.Within.{OneOf, Within}
-use Rattle.schedule.specs.Code.{maxTime, FinishWithin, Lawful}
+use Rattle.schedule.specs.Code.{maxTime, FinishWithin, Lawful, Room}
 use Rattle.schedule.proofs.Numbers.{store-number}
+use Rattle.schedule.proofs.Pass.{pass-fits, pass-room, pass-times, pass-slides}
 use Rattle.schedule.proofs.Settled.{length-settle, instruction-settle, bound-settle}
 
 within-limited : (f : Fields) → Within f → Limited (instructionOf f)
@@ -50,7 +53,7 @@ within-lawful f w =
       some-access = λ e. w .some-access (store-kind (f .kind) e);
     }
 
-pub settled-lawful : (to : Flag) (i : Instruction) → Lawful i → Lawful (settleInstruction to i)
+settled-lawful : (to : Flag) (i : Instruction) → Lawful i → Lawful (settleInstruction to i)
 unfolding settleInstruction settleFlag
 settled-lawful to i lawful = record { no-access = λ e. ap (settleFlag to) (lawful .no-access e); some-access = lawful .some-access }
 
@@ -71,16 +74,33 @@ module _ (body : List ℕ) where
   pub length-settled : (to : Flag) → length (settle to (traceOf body)) ≡ records body
   length-settled to = length-settle to (traceOf body) ∙ length-traceOf body
 
-  module _ (k : ℕ) (inside : k < records body) {read : Read} (e : read ≡ readAnswer body k) where
-    pub read-fields : read .fields ≡ fieldsAt body k
-    unfolding readAnswer
-    read-fields = ap (λ (r : Read). r .fields) e ∙ rw (lt-ltb _ _ inside)
+  pub read-fields : (k : ℕ) → k < records body → {read : Read} → read ≡ readAnswer body k → read .fields ≡ fieldsAt body k
+  unfolding readAnswer
+  read-fields k inside e = ap (λ (r : Read). r .fields) e ∙ rw (lt-ltb _ _ inside)
 
-    pub read-instruction : instructionOf (read .fields) ≡ instruction (traceOf body) k
-    read-instruction = ap instructionOf read-fields ∙ sym (instruction-traceOf body k inside)
+-- One turn of a pass: with the window before instruction k of the settled trace, and that instruction, the functions of `levels` may be called and
+-- lead to the window before the next.
+module _ (body : List ℕ) (b : Bytes body) (accepted : bodyRefusal body ≡ 0) (to : Flag) (k : ℕ) (inside : k < records body) {w : Window} {i : Instruction} (at : w ≡ windowBefore (settle to (traceOf body)) k) (this : i ≡ instruction (settle to (traceOf body)) k) where
+  abbrev trace : Trace
+  trace = settle to (traceOf body)
 
-    pub read-lawful : bodyRefusal body ≡ 0 → Bytes body → Lawful (instructionOf (read .fields))
-    read-lawful accepted b = rw read-fields (within-lawful (fieldsAt body k) (fields-within body accepted b k inside))
+  in-trace : k < length trace
+  in-trace = omega (arith, length-settled body to)
 
-    pub read-settled : (to : Flag) {i : Instruction} → i ≡ settleInstruction to (instructionOf (read .fields)) → i ≡ instruction (settle to (traceOf body)) k
-    read-settled to p = p ∙ ap (settleInstruction to) read-instruction ∙ sym (instruction-settle to (traceOf body) k)
+  lawful : Lawful (instruction trace k)
+  lawful =
+      rw (instruction-settle to (traceOf body) k, instruction-traceOf body k inside)
+      (settled-lawful to (instructionOf (fieldsAt body k)) (within-lawful (fieldsAt body k) (fields-within body accepted b k inside)))
+
+  pub turn-fits : TimesWithin maxTime (timesFrom w i) × Lawful i
+  turn-fits = (pass-fits trace (settled-small body b accepted to) k in-trace at this, subst Lawful (sym this) lawful)
+
+  module _ {e : Times} (timed : e ≡ timesFrom w i) where
+    pub turn-room : Room i e
+    turn-room = pass-room trace (settled-small body b accepted to) k in-trace at this timed
+
+    pub turn-times : e ≡ timesAt trace k
+    turn-times = pass-times trace (settled-small body b accepted to) k in-trace at this timed
+
+    pub turn-slides : {v : Window} → v ≡ slide w i e → v ≡ windowBefore trace (k + 1)
+    turn-slides = pass-slides trace (settled-small body b accepted to) k in-trace at this timed

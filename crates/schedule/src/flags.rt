@@ -1,12 +1,19 @@
 // Settling: unknown flags become hits or misses as a record is read.
 ghost use mathlib.Core.Path.{_≡_};
-ghost use Rattle.machine.specs.Time.{settleInstruction};
+ghost use Rattle.machine.specs.Instruction.{instruction};
+ghost use Rattle.machine.specs.Time.{settleInstruction, settle};
 ghost use Rattle.record.specs.Rules.{flagOf, instructionOf};
+ghost use Rattle.record.specs.Body.{traceOf};
 use crate::choice::choose;
 use record::Fields;
+use record::fields_at;
 
-// Unknown flags become the flag `to`, 0 hit or 1 miss.
-pub fn settle_fields(f: Fields, to: u32) -> Fields
+// The flags that an unknown one is settled to.
+pub const HIT: u32 = 0;
+
+pub const MISS: u32 = 1;
+
+fn settle_fields(f: Fields, to: u32) -> Fields
     ensures { λ r. ⌜ instructionOf r ≡ settleInstruction (flagOf to) (instructionOf f) ⌝ }
 {
     Fields {
@@ -20,4 +27,12 @@ pub fn settle_fields(f: Fields, to: u32) -> Fields
         fetch_latency: f.fetch_latency,
         data_latency: f.data_latency,
     }
+}
+
+// Instruction k of a body whose unknown flags become the flag `to`, a hit or a miss.
+pub fn settled_at(body: &[u8], to: u32, k: u32) -> Fields
+    ensures { λ r. ⌜ instructionOf r ≡ instruction (settle (flagOf to) (traceOf (now (body .entry)))) k ⌝ }
+{
+    let read = fields_at(body, k);
+    settle_fields(read.fields, to)
 }

@@ -7,7 +7,9 @@ pub mod levels;
 pub mod parts;
 pub mod places;
 
-pub use flags::settle_fields;
+pub use flags::HIT;
+pub use flags::MISS;
+pub use flags::settled_at;
 pub use levels::Times;
 pub use levels::Window;
 pub use levels::no_window;

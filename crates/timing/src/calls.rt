@@ -7,11 +7,11 @@ ghost use Rattle.timing.specs.Answers.{
   marginAnswer,
   alikeAnswer,
 };
-use crate::pass::HIT;
-use crate::pass::MISS;
 use crate::pass::finish_settled;
 use record::body_refusal;
 use record::settled_refusal;
+use schedule::HIT;
+use schedule::MISS;
 
 #[repr(C)]
 pub struct Finished {

@@ -2,7 +2,7 @@
 use mathlib.Core.Path.{ap, _∙_}
 use Rattle.record.specs.declared.layout.Read.{Read}
 use Rattle.record.specs.Rules.{instructionOf}
-use Rattle.pipeline.proofs.Instructions.{read-instruction}
+use Rattle.record.proofs.Instructions.{read-instruction}
 use Rattle.pipeline.proofs.reading.fields.Statement.{statement}
 use Rattle.pipeline.proofs.reading.fields.Tie as tie
 

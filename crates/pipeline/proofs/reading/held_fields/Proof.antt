@@ -9,8 +9,11 @@ fields-requires c κs = tt
 returns : tie.Need-returns
 returns c t = c .fields .ensures
 
+no-fields-requires : tie.Need-no-fields-requires
+no-fields-requires c κs = tt
+
 returns-2 : tie.Need-returns-2
-returns-2 c t = clash t (c .if1 .left)
+returns-2 c t = clash t (c .before .if1 .left)
 
 pub held-fields-spec : {M : Type 1} → statement M
-held-fields-spec = tie.close (tie.spec fields-requires returns returns-2)
+held-fields-spec = tie.close (tie.spec fields-requires returns no-fields-requires returns-2)

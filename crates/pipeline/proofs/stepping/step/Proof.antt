@@ -1,31 +1,74 @@
--- `step` meets its contract: a body that it accepts has no unknown flags to take as misses, and any other is refused whatever they are.
-use Prim.Native.Nat.{ℕ}
-use mathlib.Core.Path.{sym, ap, _∙_}
-use Rattle.machine.specs.Instruction.{miss}
-use Rattle.machine.specs.State.{orderly}
-use Rattle.machine.specs.Time.{settle}
-use Rattle.record.specs.Refusal.{_then_, _unless_}
+-- `step` meets its contract: the refusals in their order; on an orderly state the cycle by slots is the rules' cycle.
+use mathlib.Core.Path.{sym, _∙_}
+use native.Mathlib.Omega.{arith}
+use Rattle.machine.proofs.Step.{step-by-slots}
+use Rattle.machine.proofs.Orderly.{orderly-is-tested}
 use Rattle.record.specs.Body.{traceOf}
 use Rattle.record.proofs.Accepted.{lawful-length, settled-accepted}
-use Rattle.pipeline.specs.Step.{notOrderly, onward}
-use Rattle.pipeline.proofs.Answer.{step-settles}
+use Rattle.record.proofs.Refusals.{stop, go-on, last-passes, last-fails}
+use Rattle.pipeline.specs.Step.{stepRefusal}
+use Rattle.pipeline.proofs.Answer.{refused, stepped}
 use Rattle.pipeline.proofs.stepping.step.Statement.{statement}
 use Rattle.pipeline.proofs.stepping.step.Tie as tie
 
 settled-refusal-requires : tie.Need-settled-refusal-requires
 settled-refusal-requires c κs = tt
 
-cycle-on-requires : tie.Need-cycle-on-requires
-cycle-on-requires c κs = λ z. lawful-length _ (settled-accepted _ (sym (c .settled-refusal .ensures) ∙ z))
-
 returns : tie.Need-returns
-returns c =
-    let known = c .before .before in
-    let a = known .before .args in
-    let trace = settle miss (traceOf (a .body .now)) in
-    c .cycle-on .ensures
-    ∙ ap (λ (refusal : ℕ). onward (refusal then (notOrderly unless orderly trace (a .s))) trace (a .s)) (c .before .settled-refusal .ensures)
-    ∙ step-settles _ _ (λ n. known .shared-slice-known .given n .fits)
+unfolding stepRefusal
+returns c = refused _ _ (stop _ (c .before .settled-refusal .ensures) (λ z. omega (arith, c .if1 .taken, z))) (λ z. omega (arith, c .if1 .taken, z))
+
+records-requires : tie.Need-records-requires
+records-requires c κs = lawful-length _ (settled-accepted _ (sym (c .before .settled-refusal .ensures) ∙ c .if1 .left))
+
+read-stages-requires : tie.Need-read-stages-requires
+read-stages-requires c κs = tt
+
+orderly-requires : tie.Need-orderly-requires
+orderly-requires c κs = tt
+
+cycle-requires : tie.Need-cycle-requires
+cycle-requires c κs =
+    let c3 = c .before .before .before in
+    let a = c3 .before .before .before .before .args in
+    let trace = traceOf (a .body .now) in
+    let n = c3 .records .ensures in
+    let t = sym (c .before .orderly .ensures trace (c .before .before .read-stages .ensures) (n .0)) ∙ c .if2 .taken in
+    let f = (orderly-is-tested trace (a .s) .1 t) .fetched in
+    let e = n .0 in
+    let few = n .1 in
+    omega arith
+
+returns-2 : tie.Need-returns-2
+unfolding stepRefusal
+returns-2 c =
+    let c4 = c .before .before .before .before in
+    let a = c4 .before .before .before .before .args in
+    let trace = traceOf (a .body .now) in
+    let reads = c .before .before .before .read-stages .ensures in
+    let long = c4 .records .ensures .0 in
+    let t = sym (c .before .before .orderly .ensures trace reads long) ∙ c .before .if2 .taken in
+    stepped _ _
+    (go-on (c4 .before .before .settled-refusal .ensures) (c4 .before .if1 .left) (last-passes 12 t))
+    (c .cycle .ensures trace reads long ∙ step-by-slots trace (a .s) (orderly-is-tested trace (a .s) .1 t))
+
+returns-3 : tie.Need-returns-3
+unfolding stepRefusal
+returns-3 c =
+    let c3 = c .before .before .before in
+    let trace = traceOf (c3 .before .before .before .before .args .body .now) in
+    let t = sym (c .before .orderly .ensures trace (c .before .before .read-stages .ensures) (c3 .records .ensures .0)) ∙ c .if2 .left in
+    refused _ _ (go-on (c3 .before .before .settled-refusal .ensures) (c3 .before .if1 .left) (last-fails 12 t)) (λ z. omega arith)
 
 pub step-spec : {M : Type 1} → statement M
-step-spec = tie.close (tie.spec settled-refusal-requires cycle-on-requires returns)
+step-spec =
+    tie.close
+    (tie.spec
+    settled-refusal-requires
+    returns
+    records-requires
+    read-stages-requires
+    orderly-requires
+    cycle-requires
+    returns-2
+    returns-3)

@@ -18,9 +18,12 @@ returns : tie.Need-returns
 unfolding readAnswer
 returns c = rw (lt-ltb _ _ (c .before .if1 .taken), ← c .fields-from .ensures)
 
+no-fields-requires : tie.Need-no-fields-requires
+no-fields-requires c κs = search needs
+
 returns-2 : tie.Need-returns-2
 unfolding readAnswer
-returns-2 c = rw (le-ltb _ _ (c .if1 .left))
+returns-2 c = rw (le-ltb _ _ (c .before .if1 .left), c .no-fields .ensures)
 
 pub fields-at-spec : {M : Type 1} → statement M
-fields-at-spec = tie.close (tie.spec mul-fields-from fields-from-requires returns returns-2)
+fields-at-spec = tie.close (tie.spec mul-fields-from fields-from-requires returns no-fields-requires returns-2)

@@ -16,13 +16,13 @@ start-requires c κs = search needs
 returns : tie.Need-returns
 returns c = run-refused _ _ (c .before .before .settled-refusal .ensures) (omega arith) (c .start .ensures)
 
-run-accepted-requires : tie.Need-run-accepted-requires
-run-accepted-requires c κs = settled-accepted _ (sym (c .before .settled-refusal .ensures) ∙ omega arith)
+run-settled-requires : tie.Need-run-settled-requires
+run-settled-requires c κs = settled-accepted _ (sym (c .before .settled-refusal .ensures) ∙ omega arith)
 
 returns-2 : tie.Need-returns-2
-returns-2 c = run-accepted _ _ (c .before .before .settled-refusal .ensures) (omega arith) (c .run-accepted .ensures)
+returns-2 c = run-accepted _ _ (c .before .before .settled-refusal .ensures) _ (λ n. c .before .before .before .shared-slice-known .given n .fits) (omega arith) (c .run-settled .ensures)
 
 pub run-spec : {M : Type 1} → statement M
 run-spec =
     tie.close
-    (tie.spec settled-refusal-requires start-requires returns run-accepted-requires returns-2)
+    (tie.spec settled-refusal-requires start-requires returns run-settled-requires returns-2)

@@ -1,12 +1,8 @@
 -- `seated` meets its contract: field by field what its callees promise.
-use lib.ListN.{getD}
 use borrow.Author.Needs.{needs}
 use Rattle.running.specs.Placing.{stateSeated}
 use Rattle.running.proofs.seats.seated.Statement.{statement}
 use Rattle.running.proofs.seats.seated.Tie as tie
-
-element-copy-out-t4 : tie.Need-element-copy-out-t4
-element-copy-out-t4 c = search needs
 
 slot-at-requires : tie.Need-slot-at-requires
 slot-at-requires c κs = search needs
@@ -31,7 +27,7 @@ unfolding stateSeated
 returns c =
     λ x.
     record {
-      fetched = getD (c .before .before .before .before .before .before .before .args .seats .now) 0 0;
+      fetched = c .before .before .before .before .before .before .args .fetched;
       IF = c .before .before .before .before .before .slot-at .ensures x;
       ID = c .before .before .before .before .slot-at2 .ensures x;
       EX = c .before .before .before .slot-at3 .ensures x;
@@ -44,7 +40,6 @@ pub seated-spec : {M : Type 1} → statement M
 seated-spec =
     tie.close
     (tie.spec
-    element-copy-out-t4
     slot-at-requires
     slot-at-requires-2
     slot-at-requires-3
