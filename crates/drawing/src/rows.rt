@@ -7,10 +7,10 @@ ghost use Rattle.machine.specs.Time.{settle};
 ghost use Rattle.record.specs.Body.{traceOf, bodyRefusal};
 ghost use Rattle.text.specs.Text.{Wrote};
 ghost use Rattle.drawing.specs.Chart.{slotText, rowText, rowsText};
+use decode::MISS;
 use machine::Slot;
 use machine::State;
 use running::run_settled;
-use schedule::MISS;
 use text::put_byte;
 use text::put_decimal;
 

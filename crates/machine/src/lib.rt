@@ -3,6 +3,8 @@
 ghost use mathlib.Core.Path.{_≡_};
 ghost use Rattle.machine.specs.State.{start};
 
+pub mod stage;
+
 // A stage's slot: empty (index and count 0), or an instruction's index with its remaining count.
 #[repr(C)]
 pub struct Slot {

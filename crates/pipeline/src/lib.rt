@@ -1,8 +1,4 @@
-// The pipeline, one cycle on: the public call Step.
-mod hazards;
-mod moving;
-mod orderly;
-mod reading;
+// The public call Step.
 pub mod refusal;
 pub mod stepping;
 

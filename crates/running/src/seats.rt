@@ -11,15 +11,15 @@ ghost use Rattle.schedule.specs.Code.{timesOf, numbered};
 ghost use Rattle.running.specs.Placing.{Rising, stateWith, slotSeated, stateSeated, Seated};
 use machine::Slot;
 use machine::State;
+use machine::stage::EX;
+use machine::stage::ID;
+use machine::stage::IF;
+use machine::stage::MEM;
+use machine::stage::ST;
+use machine::stage::WB;
 use record::Fields;
 use schedule::Times;
 use schedule::place_at;
-use schedule::places::EX;
-use schedule::places::ID;
-use schedule::places::IF;
-use schedule::places::MEM;
-use schedule::places::ST;
-use schedule::places::WB;
 
 pub(crate) const SEATS: usize = 13;
 

@@ -1,22 +1,20 @@
 -- For each function that computes with the window, what its calls give together: one congruence for each, over plain variables.
-use Prim.Native.Nat.{ℕ, _+_, _-_, max}
-use mathlib.Core.Bool.{Bool, cond, _&&_}
+use Prim.Native.Nat.{ℕ, _+_, max}
+use mathlib.Core.Bool.{Bool, cond}
 use mathlib.Core.Path.{_≡_, _∙_, sym}
 use native.Mathlib.Omega.{arith}
-use lib.Dec.{ltb, eqb}
+use lib.Dec.{ltb}
 use Rattle.machine.specs.Instruction.{Instruction}
-use Rattle.machine.specs.Rules.{IF, EX, MEM, isLoad, isStore, isBranch, hits, misses, entry, reads, missesData}
+use Rattle.machine.specs.Rules.{IF, EX, MEM, isLoad, isStore, isBranch, hits, entry, reads, missesData}
 use Rattle.machine.specs.Time.{settleInstruction}
 use Rattle.machine.proofs.Window as Theory
-use Rattle.machine.proofs.Window.{enterIF, enterID, enterEX, enterMEM, enterLast, lastCount}
+use Rattle.machine.proofs.Window.{enterIF, enterID, enterEX, enterMEM, enterLast}
 use Rattle.record.specs.declared.layout.Fields.{Fields}
 use Rattle.record.specs.Rules.{flagOf, instructionOf}
-use Rattle.schedule.specs.Code.{windowOf, timesOf, Lawful}
+use Rattle.schedule.specs.Code.{windowOf, timesOf}
 use Rattle.schedule.specs.declared.levels.Window.{Window}
 use Rattle.schedule.specs.declared.levels.Times.{Times}
-use Rattle.machine.specs.Test.{_and_, _or_}
-use Rattle.machine.proofs.Connectives.{Value, passed, failed, value}
-use Rattle.schedule.proofs.Numbers.{miss-number, settled-number, and-is, cond-and}
+use Rattle.schedule.proofs.Numbers.{settled-number}
 
 -- The code first joins what is known early, so that only one sum and one choice wait for the time that is known last.
 max-joins : (a b c : ℕ) → max a (max b c) ≡ max (max a b) c
@@ -24,23 +22,6 @@ max-joins a b c = omega arith
 
 pub sum-joins : (a b c : ℕ) → a + (b + c) ≡ a + b + c
 sum-joins a b c = omega arith
-
--- only a load or store misses
-misses-only : (i : Instruction) → Lawful i → Value (isLoad (i .kind) or isStore (i .kind)) → misses (i .access) ≡ missesData i
-unfolding missesData _and_
-misses-only i lawful (passed e) = rw e
-misses-only i lawful (failed e) = rw (e, lawful .no-access e)
-
-cycles-more
-    : (i : Instruction) →
-    Lawful i →
-    Value (isStore (i .kind)) →
-    Value (misses (i .access)) →
-    cond (isStore (i .kind) && misses (i .access)) (i .dataLatency) 1 ≡ lastCount i + 1
-unfolding lastCount entry
-cycles-more i lawful (passed e) (passed m) = rw (e, m) (let some = lawful .some-access e in omega arith)
-cycles-more i lawful (passed e) (failed m) = rw (e, m)
-cycles-more i lawful (failed e) m = rw e
 
 -- the record with settled flags
 pub settled-fields
@@ -66,37 +47,6 @@ settled-fields f to p q = rw (p, q, settled-number (f .fetch) to, settled-number
 module _ (f : Fields) where
   abbrev i : Instruction
   i = instructionOf f
-
-  pub misses-data-is : Lawful i → eqb (f .access) 1 ≡ missesData i
-  unfolding instructionOf
-  misses-data-is lawful = miss-number (f .access) ∙ misses-only i lawful (value (isLoad (i .kind) or isStore (i .kind)))
-
-  pub IF-count : {r : ℕ} → r ≡ cond (eqb (f .fetch) 1) (f .«fetch_latency») 0 → r ≡ entry i IF
-  unfolding instructionOf entry
-  IF-count p = p ∙ rw (miss-number (f .fetch))
-
-  pub MEM-count : {load : Bool} {r : ℕ} → load ≡ isLoad (i .kind) → r ≡ cond (load && eqb (f .access) 1) (f .«data_latency») 0 → r ≡ entry i MEM
-  unfolding instructionOf entry
-  MEM-count {load} p q = q ∙ rw (miss-number (f .access), and-is load (misses (flagOf (f .access))), p)
-
-  pub last-count
-      : {store : Bool} {late r : ℕ} →
-      store ≡ isStore (i .kind) →
-      late ≡ f .«data_latency» - 1 →
-      r ≡ cond (store && eqb (f .access) 1) late 0 →
-      r ≡ lastCount i
-  unfolding instructionOf entry lastCount
-  last-count {store} {late} p q s = s ∙ rw (miss-number (f .access), cond-and store (misses (flagOf (f .access))) late, p, q)
-
-  -- one cycle more than the count, which for a store that misses is the latency less 1
-  pub last-cycles
-      : Lawful i →
-      {store : Bool} {r : ℕ} →
-      store ≡ isStore (i .kind) →
-      r ≡ cond (store && eqb (f .access) 1) (f .«data_latency») 1 →
-      r ≡ lastCount i + 1
-  unfolding instructionOf
-  last-cycles lawful {store} p q = q ∙ rw (miss-number (f .access), p) (cycles-more i lawful (value (isStore (i .kind))) (value (misses (i .access))))
 
   module _ (w : Window) where
     pub IF-step

@@ -1,10 +1,8 @@
 -- What the crate's structs stand for in the theory of the schedule, and the limit that keeps 32-bit sums from wrapping.
 use Prim.Native.Nat.{ℕ, _+_, _^_, _≤_, _<_}
-use mathlib.Core.Bool.{true, false}
 use mathlib.Core.List.{List}
 use mathlib.Core.Path.{_≡_}
-use Rattle.machine.specs.Test.{_or_}
-use Rattle.machine.specs.Instruction.{Flag, hit, Instruction}
+use Rattle.machine.specs.Instruction.{Flag, Instruction}
 use Rattle.machine.specs.Time.{finish, settle}
 use Rattle.machine.specs.Rules as Rules
 use Rattle.machine.proofs.Stages.{level}
@@ -42,11 +40,6 @@ maxTime = 537931776
 -- no accepted trace finishes later, with its unknown flags all hits or all misses
 abbrev pub FinishWithin : Type 0
 FinishWithin = (body : List ℕ) → Bytes body → bodyRefusal body ≡ 0 → (to : Flag) → finish (settle to (traceOf body)) ≤ maxTime
-
--- The record rules that the times rest on: "Kinds 0 and 3 have data bits 0", and "data latency, 1 to 65,535 for kinds 1 and 2".
-pub record Lawful (i : Instruction) : Type 0 where
-  pub no-access : (Rules.isLoad (i .kind) or Rules.isStore (i .kind)) ≡ false → i .access ≡ hit
-  pub some-access : Rules.isStore (i .kind) ≡ true → 1 ≤ i .dataLatency
 
 -- the sums that sliding the window computes from an instruction's times fit 32 bits
 pub record Room (i : Instruction) (e : Theory.Times) : Type 0 where

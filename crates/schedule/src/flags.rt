@@ -4,14 +4,9 @@ ghost use Rattle.machine.specs.Instruction.{instruction};
 ghost use Rattle.machine.specs.Time.{settleInstruction, settle};
 ghost use Rattle.record.specs.Rules.{flagOf, instructionOf};
 ghost use Rattle.record.specs.Body.{traceOf};
-use crate::choice::choose;
+use decode::choose;
 use record::Fields;
 use record::fields_at;
-
-// The flags that an unknown one is settled to.
-pub const HIT: u32 = 0;
-
-pub const MISS: u32 = 1;
 
 fn settle_fields(f: Fields, to: u32) -> Fields
     ensures { λ r. ⌜ instructionOf r ≡ settleInstruction (flagOf to) (instructionOf f) ⌝ }

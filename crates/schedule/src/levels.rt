@@ -17,18 +17,19 @@ ghost use Rattle.machine.proofs.Window.{
 };
 ghost use Rattle.machine.proofs.WindowBounds.{TimesWithin};
 ghost use Rattle.record.specs.Rules.{instructionOf};
-ghost use Rattle.schedule.specs.Code.{windowOf, timesOf, maxTime, Lawful, Room};
-use crate::choice::choose;
-use crate::choice::later;
-use crate::parts::count_in_if;
-use crate::parts::count_in_mem;
-use crate::parts::cycles_in_last;
-use crate::parts::fetch_hits;
-use crate::parts::is_branch;
-use crate::parts::is_load;
-use crate::parts::is_store;
-use crate::parts::misses_data;
-use crate::parts::reads;
+ghost use Rattle.decode.specs.Stores.{StoreTakesTime};
+ghost use Rattle.schedule.specs.Code.{windowOf, timesOf, maxTime, Room};
+use decode::choose;
+use decode::count_in_if;
+use decode::count_in_mem;
+use decode::cycles_in_last;
+use decode::fetch_hits;
+use decode::holds_fetches;
+use decode::is_load;
+use decode::is_store;
+use decode::later;
+use decode::misses_data;
+use decode::reads;
 use record::Fields;
 
 // What a pass remembers of the instructions so far.
@@ -103,7 +104,7 @@ pub fn enter_ex(w: Window, f: Fields, from: u32) -> u32
 }
 
 pub fn enter_mem(w: Window, f: Fields, from: u32) -> u32
-    requires { ⌜ (from + entry (instructionOf f) EX + 1 < 2 ^ 32) × Lawful (instructionOf f) ⌝ }
+    requires { ⌜ from + entry (instructionOf f) EX + 1 < 2 ^ 32 ⌝ }
     ensures { λ r. ⌜ r ≡ enterMEM (windowOf w) (instructionOf f) from ⌝ }
 {
     let store = choose(misses_data(f), w.store_done, 0);
@@ -121,7 +122,7 @@ pub fn enter_last(w: Window, f: Fields, from: u32) -> u32
 }
 
 pub fn enter_post(f: Fields, from: u32) -> u32
-    requires { ⌜ (from + lastCount (instructionOf f) + 1 < 2 ^ 32) × Lawful (instructionOf f) ⌝ }
+    requires { ⌜ (from + lastCount (instructionOf f) + 1 < 2 ^ 32) × StoreTakesTime (instructionOf f) ⌝ }
     ensures { λ r. ⌜ r ≡ enterPost (instructionOf f) from ⌝ }
 {
     from + cycles_in_last(f)
@@ -129,7 +130,7 @@ pub fn enter_post(f: Fields, from: u32) -> u32
 
 // All six, each from the one before.
 pub fn times_from(w: Window, f: Fields) -> Times
-    requires { ⌜ TimesWithin maxTime (timesFrom (windowOf w) (instructionOf f)) × Lawful (instructionOf f) ⌝ }
+    requires { ⌜ TimesWithin maxTime (timesFrom (windowOf w) (instructionOf f)) × StoreTakesTime (instructionOf f) ⌝ }
     ensures { λ r. ⌜ timesOf r ≡ timesFrom (windowOf w) (instructionOf f) ⌝ }
 {
     let at_if = enter_if(w, f);
@@ -158,7 +159,7 @@ pub fn slide(w: Window, f: Fields, e: Times) -> Window
         EX: e.EX,
         MEM: e.MEM,
         last: e.last,
-        branch_done: choose(is_branch(f), e.EX + (f.execution + 1), w.branch_done),
+        branch_done: choose(holds_fetches(f), e.EX + (f.execution + 1), w.branch_done),
         load_done: choose(load, e.MEM + (count_in_mem(f) + 1), w.load_done),
         store_done: choose(is_store(f), e.post, w.store_done),
         load_target: choose(load, f.target, 0),

@@ -1,14 +1,10 @@
 // The schedule of a trace, one instruction after the other: the times at which it enters each stage,
 // from a window of constant size on those before it, and its place at a cycle. No public call of
 // document 01 is here; Run, Finish, and Best and worst are passes that call these functions.
-mod choice;
 pub mod flags;
 pub mod levels;
-pub mod parts;
 pub mod places;
 
-pub use flags::HIT;
-pub use flags::MISS;
 pub use flags::settled_at;
 pub use levels::Times;
 pub use levels::Window;

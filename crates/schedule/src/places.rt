@@ -3,31 +3,22 @@ ghost use mathlib.Core.Path.{_≡_};
 ghost use Rattle.machine.proofs.Window.{placeAt};
 ghost use Rattle.record.specs.Rules.{instructionOf};
 ghost use Rattle.schedule.specs.Code.{timesOf, numbered};
-use crate::choice::choose;
-use crate::choice::less;
 use crate::levels::Times;
-use crate::parts::count_in_if;
-use crate::parts::count_in_last;
-use crate::parts::count_in_mem;
-use crate::parts::is_store;
+use decode::choose;
+use decode::count_in_if;
+use decode::count_in_last;
+use decode::count_in_mem;
+use decode::is_store;
+use decode::less;
+use machine::stage::EX;
+use machine::stage::ID;
+use machine::stage::IF;
+use machine::stage::MEM;
+use machine::stage::POST;
+use machine::stage::PRE;
+use machine::stage::ST;
+use machine::stage::WB;
 use record::Fields;
-
-// The stages as numbers.
-pub const PRE: u32 = 0;
-
-pub const IF: u32 = 1;
-
-pub const ID: u32 = 2;
-
-pub const EX: u32 = 3;
-
-pub const MEM: u32 = 4;
-
-pub const ST: u32 = 5;
-
-pub const WB: u32 = 6;
-
-pub const POST: u32 = 7;
 
 // A stage and a remaining count.
 #[repr(C)]

@@ -8,10 +8,10 @@ ghost use Rattle.timing.specs.Answers.{
   alikeAnswer,
 };
 use crate::pass::finish_settled;
+use decode::HIT;
+use decode::MISS;
 use record::body_refusal;
 use record::settled_refusal;
-use schedule::HIT;
-use schedule::MISS;
 
 #[repr(C)]
 pub struct Finished {

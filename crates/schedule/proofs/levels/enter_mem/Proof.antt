@@ -8,7 +8,7 @@ use Rattle.schedule.proofs.levels.enter_mem.Statement.{statement}
 use Rattle.schedule.proofs.levels.enter_mem.Tie as tie
 
 misses-data-requires : tie.Need-misses-data-requires
-misses-data-requires c κs = c .pre .1
+misses-data-requires c κs = search needs
 
 choose-requires : tie.Need-choose-requires
 choose-requires c κs = search needs

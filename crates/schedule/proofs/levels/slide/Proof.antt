@@ -10,8 +10,8 @@ use Rattle.schedule.proofs.levels.slide.Tie as tie
 is-load-requires : tie.Need-is-load-requires
 is-load-requires c κs = search needs
 
-is-branch-requires : tie.Need-is-branch-requires
-is-branch-requires c κs = search needs
+holds-fetches-requires : tie.Need-holds-fetches-requires
+holds-fetches-requires c κs = search needs
 
 add-choose : tie.Need-add-choose
 unfolding instructionOf entry
@@ -49,14 +49,14 @@ later-requires : tie.Need-later-requires
 later-requires c κs = search needs
 
 returns : tie.Need-returns
-returns c = slid _ _ _ (c .before .before .before .before .before .before .before .before .before .before .before .is-load .ensures) (c .before .before .before .before .before .before .before .before .before .before .is-branch .ensures) (c .before .before .before .before .before .before .before .choose .ensures) (c .before .before .before .before .before .before .count-in-mem .ensures) (c .before .before .before .before .choose2 .ensures) (c .before .before .before .is-store .ensures) (c .before .before .choose3 .ensures) (c .before .choose4 .ensures) (c .later .ensures)
+returns c = slid _ _ _ (c .before .before .before .before .before .before .before .before .before .before .before .is-load .ensures) (c .before .before .before .before .before .before .before .before .before .before .holds-fetches .ensures) (c .before .before .before .before .before .before .before .choose .ensures) (c .before .before .before .before .before .before .count-in-mem .ensures) (c .before .before .before .before .choose2 .ensures) (c .before .before .before .is-store .ensures) (c .before .before .choose3 .ensures) (c .before .choose4 .ensures) (c .later .ensures)
 
 pub slide-spec : {M : Type 1} → statement M
 slide-spec =
     tie.close
     (tie.spec
     is-load-requires
-    is-branch-requires
+    holds-fetches-requires
     add-choose
     add-choose-2
     choose-requires

@@ -1,0 +1,81 @@
+-- `cycle` meets its contract: the masks say who moves, and from that come the new slots; where no instruction starts, none moves.
+use mathlib.Core.Path.{_≡_, sym, ap, _∙_}
+use borrow.Author.Needs.{needs}
+use Rattle.machine.proofs.Connectives.{and-failed-l}
+use Rattle.machine.proofs.Masks.{maskOf, goes-post}
+use Rattle.machine.proofs.BySlots.{storeInMEM}
+use Rattle.machine.specs.Rules.{isStore}
+use Rattle.machine.specs.Instruction.{Instruction}
+use Rattle.cycle.specs.declared.moving.Bits.{Bits}
+use Rattle.cycle.specs.Bits.{bitOf, starts}
+use Rattle.cycle.proofs.Starts.{leaving-is, standstill-is, none-set}
+use Rattle.cycle.proofs.cycling.cycle.Statement.{statement}
+use Rattle.cycle.proofs.cycling.cycle.Tie as tie
+
+going-requires : tie.Need-going-requires
+going-requires c κs = tt
+
+none-requires : tie.Need-none-requires
+none-requires c κs = tt
+
+all-stay-requires : tie.Need-all-stay-requires
+all-stay-requires c κs = tt
+
+returns : tie.Need-returns
+returns c =
+    λ trace h e.
+    let c3 = c .before .before .before in
+    let s = c3 .before .args .s in
+    let idle = sym (c .before .before .none .ensures) ∙ c .before .if1 .taken in
+    c .all-stay .ensures
+    ∙ standstill-is trace s (none-set (starts trace s) (and-failed-l _ _ (goes-post trace s)) (c3 .going .ensures trace h e) idle)
+
+is-store-requires : tie.Need-is-store-requires
+is-store-requires c κs = tt
+
+mask-requires : tie.Need-mask-requires
+mask-requires c κs = tt
+
+full-requires : tie.Need-full-requires
+full-requires c κs = tt
+
+mask-requires-2 : tie.Need-mask-requires-2
+mask-requires-2 c κs = tt
+
+leaving-requires : tie.Need-leaving-requires
+leaving-requires c κs = tt
+
+slots-after-requires : tie.Need-slots-after-requires
+slots-after-requires c κs = search needs
+
+returns-2 : tie.Need-returns-2
+unfolding storeInMEM
+returns-2 c =
+    λ trace h e.
+    let c4 = c .before .before .before .before in
+    let c8 = c4 .before .before .before .before in
+    let a = c8 .before .args in
+    let store : c4 .before .is-store .result ≡ storeInMEM trace (a .s) = c4 .before .is-store .ensures ∙ ap (λ (i : Instruction). isStore (i .kind)) (h .MEM) in
+    c .slots-after .ensures trace h
+    (c .before .leaving .ensures
+    ∙ leaving-is trace (a .s)
+    (c4 .mask .ensures ∙ ap (λ (b : Bits). maskOf (bitOf b)) (c8 .going .ensures trace h e))
+    (c .before .before .mask2 .ensures ∙ ap (λ (b : Bits). maskOf (bitOf b)) (c .before .before .before .full .ensures trace e))
+    store)
+    store
+
+pub cycle-spec : {M : Type 1} → statement M
+cycle-spec =
+    tie.close
+    (tie.spec
+    going-requires
+    none-requires
+    all-stay-requires
+    returns
+    is-store-requires
+    mask-requires
+    full-requires
+    mask-requires-2
+    leaving-requires
+    slots-after-requires
+    returns-2)

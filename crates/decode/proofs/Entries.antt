@@ -1,0 +1,60 @@
+-- Counts on entry by the numbers of a record's fields.
+use Prim.Native.Nat.{ℕ, _+_, _-_}
+use mathlib.Core.Bool.{Bool, cond, _&&_}
+use mathlib.Core.Path.{_≡_, ap, _∙_}
+use native.Mathlib.Omega.{arith}
+use lib.Dec.{eqb}
+use Rattle.machine.specs.Instruction.{Instruction}
+use Rattle.machine.specs.Rules.{Stage, IF, MEM, ST, isLoad, isStore, misses, entry}
+use Rattle.machine.proofs.Connectives.{Value, passed, failed, value}
+use Rattle.machine.proofs.Window.{lastCount}
+use Rattle.record.specs.declared.layout.Fields.{Fields}
+use Rattle.record.specs.Rules.{flagOf, instructionOf}
+use Rattle.decode.specs.Stores.{StoreTakesTime}
+use Rattle.decode.proofs.Joined.{both}
+use Rattle.decode.proofs.Numbers.{miss-number}
+
+-- equal instructions have equal counts
+pub entry-of : (k : Stage) {i j : Instruction} → i ≡ j → entry i k ≡ entry j k
+entry-of k e = ap (λ (i : Instruction). entry i k) e
+
+cycles-more
+    : (i : Instruction) →
+    StoreTakesTime i →
+    Value (isStore (i .kind)) →
+    Value (misses (i .access)) →
+    cond (isStore (i .kind) && misses (i .access)) (i .dataLatency) 1 ≡ lastCount i + 1
+unfolding lastCount entry
+cycles-more i takes (passed e) (passed m) = rw (e, m) (let some = takes e in omega arith)
+cycles-more i takes (passed e) (failed m) = rw (e, m)
+cycles-more i takes (failed e) m = rw e
+
+module _ (f : Fields) where
+  abbrev i : Instruction
+  i = instructionOf f
+
+  pub IF-count : {r : ℕ} → r ≡ cond (eqb (f .fetch) 1) (f .«fetch_latency») 0 → r ≡ entry i IF
+  unfolding instructionOf entry
+  IF-count p = p ∙ rw (miss-number (f .fetch))
+
+  pub MEM-count : {load : Bool} {r : ℕ} → load ≡ isLoad (i .kind) → r ≡ cond (load && eqb (f .access) 1) (f .«data_latency») 0 → r ≡ entry i MEM
+  unfolding instructionOf entry
+  MEM-count {load} p q = q ∙ rw (miss-number (f .access), both load (misses (flagOf (f .access))), p)
+
+  pub ST-count : {late r : ℕ} → late ≡ f .«data_latency» - 1 → r ≡ cond (eqb (f .access) 1) late 0 → r ≡ entry i ST
+  unfolding instructionOf entry
+  ST-count p q = q ∙ rw (miss-number (f .access), p)
+
+  pub last-count : {store : Bool} {late r : ℕ} → store ≡ isStore (i .kind) → late ≡ entry i ST → r ≡ cond store late 0 → r ≡ lastCount i
+  unfolding lastCount
+  last-count p q s = s ∙ rw (p, q)
+
+  -- one cycle more than the count, which for a store that misses is the latency less 1
+  pub last-cycles
+      : StoreTakesTime i →
+      {store : Bool} {r : ℕ} →
+      store ≡ isStore (i .kind) →
+      r ≡ cond (store && eqb (f .access) 1) (f .«data_latency») 1 →
+      r ≡ lastCount i + 1
+  unfolding instructionOf
+  last-cycles takes {store} p q = q ∙ rw (miss-number (f .access), p) (cycles-more i takes (value (isStore (i .kind))) (value (misses (i .access))))

@@ -1,0 +1,4 @@
+pub mod Entries
+pub mod Goals
+pub mod Joined
+pub mod Numbers
