@@ -1,6 +1,6 @@
 // The rows of a chart: the cycle, then the slots as index:count or a dash.
 ghost use mathlib.Core.Path.{_≡_};
-ghost use Prim.Native.Nat.{suc, _+_, _*_, _≤_};
+ghost use Prim.Native.Nat.{suc, _+_, _≤_};
 ghost use lib.ListN.{length};
 ghost use Rattle.machine.specs.Instruction.{miss};
 ghost use Rattle.machine.specs.Time.{settle};

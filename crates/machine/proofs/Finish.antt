@@ -104,18 +104,12 @@ pub all-left-is : (trace : Trace) (t : ℕ) → allLeft trace (after trace t) �
 all-left-is trace t = rw (finish-is trace) (all-left-at trace t)
 
 -- the first k instructions have left from the time on at which the last of them leaves,
-pub first-left
+first-left
     : (trace : Trace) (t k i : ℕ) → i < k → i < length trace → lastLeaves (behaviour trace) k ≤ t → after trace t i ≡ record { stage = post; count = 0 }
 unfolding behaviour entry
 first-left trace t k i h l m =
     let p = leaves-by (behaviour trace) k i h in
     bridge trace t i l ∙ at-post-level (behaviour trace) t i refl (omega arith)
-
-pub first-leave : (trace : Trace) (k : ℕ) → k ≤ length trace → lastLeaves (behaviour trace) k ≤ finish trace
-first-leave trace k l =
-    rw (finish-is trace)
-    (last-leaves-by (behaviour trace) k (lastLeaves (behaviour trace) (length trace)) λ i h.
-    leaves-by (behaviour trace) (length trace) i (omega arith))
 
 -- and so nothing changes if a run stops at its finishing time
 pub stays-left : (trace : Trace) (t i : ℕ) → i < length trace → finish trace ≤ t → after trace t i ≡ record { stage = post; count = 0 }

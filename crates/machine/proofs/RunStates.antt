@@ -73,10 +73,6 @@ module _ (trace : Trace) where
   pub run-places : (t i : ℕ) → i < length trace → placeOf (stateAfter trace t) i ≡ after trace t i
   run-places t = run-faithful t .places
 
-  -- a cycle of the rules on the state after t cycles gives the state after one more
-  pub step-run : (t : ℕ) → stateOf trace (cycle trace (placeOf (stateAfter trace t))) ≡ stateAfter trace (suc t)
-  step-run t = next-state t (stateAfter trace t) (run-faithful t)
-
   -- nothing changes if a run stops at its finishing time
   pub run-stops-state : (t : ℕ) → stateAfter trace (min t (finish trace)) ≡ stateAfter trace t
   run-stops-state t = state-agrees (after trace (min t (finish trace))) (after trace t) trace (run-stops trace t)

@@ -1,12 +1,12 @@
 -- The fields that are read at any index stand for the trace's instruction there; past the end both are blank.
 use Prim.Native.Nat.{ℕ, _≤_}
 use mathlib.Core.List.{List}
-use mathlib.Core.Path.{_≡_, refl, sym, ap, _∙_}
+use mathlib.Core.Path.{_≡_, refl, sym, _∙_}
 use native.Mathlib.Omega.{arith}
 use lib.Dec.{ltb}
-use lib.ListN.{length, getD, List·getD-eq-default}
+use lib.ListN.{length, List·getD-eq-default}
 use borrow.Author.Tests.{ltb-true, ltb-false}
-use Rattle.machine.specs.Instruction.{Trace, Instruction, instruction, blank}
+use Rattle.machine.specs.Instruction.{Trace, instruction, blank}
 use Rattle.machine.proofs.Connectives.{Value, passed, failed, value}
 use Rattle.record.specs.Rules.{kindOf, flagOf, instructionOf}
 use Rattle.record.specs.Body.{records, readAnswer, noFields, traceOf}

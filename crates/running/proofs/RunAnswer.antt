@@ -1,5 +1,5 @@
 -- What the whole pass gives is Run's answer: placing at the limit is right because nothing changes after the finishing time.
-use Prim.Native.Nat.{ℕ, _≤_, _<_, min}
+use Prim.Native.Nat.{ℕ, _<_, min}
 use mathlib.Core.Bool.{false}
 use mathlib.Core.List.{List}
 use mathlib.Core.Path.{_≡_, sym, ap, _∙_}
@@ -33,7 +33,7 @@ left-by end limit (more h) = lt-leb end limit h ∙ sym (lt-leb end (min limit e
 left-is : (trace : Trace) (limit : ℕ) → leb (finish trace) limit ≡ allLeft trace (after trace (min limit (finish trace)))
 left-is trace limit = left-by (finish trace) limit (tri (finish trace) limit) ∙ sym (all-left-is trace (min limit (finish trace)))
 
--- also past the finishing time, where nothing changes any more
+-- the state that a run gives is the one after as many cycles as its limit says, also past the finishing time
 pub state-ran : (trace : Trace) (limit : ℕ) {r : Ran} → r ≡ ranFor trace limit → r .state ≡ stateAfter trace limit
 unfolding ranFor
 state-ran trace limit e = ap (λ (r : Ran). r .state) e ∙ run-stops-state trace limit
@@ -75,7 +75,7 @@ module _ (body : List ℕ) (limit : ℕ) {refusal : ℕ} (e : refusal ≡ settle
   unfolding runAnswer
   run-refused refused p = rw (← e, p, ne-eqb _ 0 refused)
 
-  -- a body that is accepted is its own settling
+  -- the trace of a body that Run accepts is its own settling
   pub run-accepted : {r : Ran} (to : Flag) → Bytes body → refusal ≡ 0 → r ≡ ranFor (settle to (traceOf body)) limit → r ≡ runAnswer body limit
   unfolding runAnswer
   run-accepted to b accepted p =

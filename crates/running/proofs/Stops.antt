@@ -6,7 +6,7 @@ use mathlib.Core.Path.{_≡_, refl, sym, ap, _∙_}
 use native.Mathlib.Omega.{arith}
 use lib.ListN.{length}
 use Rattle.machine.specs.Instruction.{Trace}
-use Rattle.machine.specs.Rules.{Stage, Place, pre, post, same, after}
+use Rattle.machine.specs.Rules.{Stage, Place, pre, same, after}
 use Rattle.machine.specs.Time.{finish}
 use Rattle.machine.specs.declared.State.{State}
 use Rattle.machine.proofs.Connectives.{clash}

@@ -52,7 +52,8 @@ abbrev pub slotOf : ℕ → ℕ → Slot
 slotOf zero count = emptySlot
 slotOf (suc k) count = record { filled = true; index = k; count = count }
 
--- the slots as the pass keeps them, in thirteen numbers: at each level from 1 to 6 the first number of its slot, and six further on the second
+-- the slots as the pass keeps them, in thirteen numbers: at each level from 1 to 6 the first number of its slot, and six further on the second;
+-- the number at level 0 is not used
 unfoldable pub slotSeated : List ℕ → ℕ → Slot
 slotSeated seats at = slotOf (getD seats at 0) (getD seats (6 + at) 0)
 
@@ -73,7 +74,7 @@ pub record Seated (seats : List ℕ) (fetched : ℕ) (s : State) : Type 0 where
   pub long : length seats ≡ 13
   pub state : stateSeated seats fetched ≡ s
 
--- the pass over a trace has come to instruction k: of those before, which are fetched by the limit, it has seated the ones under way
+-- the pass over a trace has come to instruction k: all before it are fetched by the limit, and those under way are seated
 abbrev pub Passed : Trace → ℕ → ℕ → List ℕ → Type 0
 Passed trace limit k seats = Seated seats k (stateBelow (after trace limit) k)
 

@@ -71,9 +71,9 @@ fn pass(body: &[u8], to: u32, limit: u32, seats: &mut [u32; SEATS]) -> Fetched
     }
 }
 
-// The run of an accepted body whose unknown flags become the flag `to`; where not all are fetched
-// by the limit, it goes on beyond it. An inner function: a chart takes its rows from it, with unknown
-// flags as misses.
+// The run of an accepted body whose unknown flags become the flag `to`. Where not all are fetched by
+// the limit, the run is not over, and the limit is the number of cycles run. An inner function: a
+// chart takes its rows from it, with unknown flags as misses.
 pub fn run_settled(body: &[u8], to: u32, limit: u32) -> Ran
     requires { ⌜ bodyRefusal (now body) ≡ 0 ⌝ }
     ensures { λ r. ⌜ r ≡ ranFor (settle (flagOf to) (traceOf (now (body .entry)))) limit ⌝ }

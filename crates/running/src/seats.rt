@@ -1,7 +1,7 @@
 // The slots of the state that Run's pass builds, as numbers in one array that is lent to the pass: a
 // State carried by value through the loop would be copied with the padding of its six slots. At each
 // level from IF 1 to WB 6 stands one more than the index of the instruction there, or 0 if there is
-// none; six further on stands its count.
+// none; six further on stands its count. The number at level 0, which is pre, is not used.
 ghost use mathlib.Core.Path.{_≡_};
 ghost use Prim.Native.Nat.{_+_, _<_, _≤_, _^_};
 ghost use lib.ListN.{length};
@@ -27,7 +27,7 @@ pub(crate) const SEATS: usize = 13;
 const COUNTS: usize = 6;
 
 // Seats instruction k, which is fetched by the limit, unless it has left by then. Most have, which
-// their last time tells without computing a place.
+// the time of leaving tells without computing a place.
 pub(crate) fn seat(seats: &mut [u32; SEATS], f: Fields, e: Times, limit: u32, k: u32)
     requires { ⌜ (length (now seats) ≡ 13) × Rising (timesOf e) × (e .IF ≤ limit) × (k + 1 < 2 ^ 32) ⌝ }
     ensures { λ _. ⌜ Seated (now (seats .exit)) (k + 1) (stateWith (numbered (placeAt (instructionOf f) (timesOf e) limit)) k (stateSeated (now (seats .entry)) k)) ⌝ }

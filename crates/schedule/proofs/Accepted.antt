@@ -1,5 +1,5 @@
--- What a pass over an accepted body needs: the trace's bound is within the limit, and record k, read with its unknown flags settled, gives
--- instruction k of the settled trace.
+-- What a pass over an accepted body needs: the trace's bound is within the limit, and at each instruction the functions of `levels` may be called and
+-- lead to the next.
 use Prim.Native.Nat.{ℕ, _+_, _≤_, _<_}
 use mathlib.Core.List.{List}
 use mathlib.Core.Bool.{true}
@@ -61,8 +61,8 @@ module _ (body : List ℕ) where
   unfolding readAnswer
   read-fields k inside e = ap (λ (r : Read). r .fields) e ∙ rw (lt-ltb _ _ inside)
 
--- One turn of a pass: with the window before instruction k of the settled trace, and that instruction, the functions of `levels` may be called and
--- lead to the window before the next.
+-- One turn of a pass: with the window before instruction k of the settled trace, and that instruction, the code gives its times and the window before
+-- the next.
 module _ (body : List ℕ) (b : Bytes body) (accepted : bodyRefusal body ≡ 0) (to : Flag) (k : ℕ) (inside : k < records body) {w : Window} {i : Instruction} (at : w ≡ windowBefore (settle to (traceOf body)) k) (this : i ≡ instruction (settle to (traceOf body)) k) where
   abbrev trace : Trace
   trace = settle to (traceOf body)

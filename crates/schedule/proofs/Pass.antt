@@ -1,17 +1,15 @@
 -- A pass over a trace whose bound is within the limit: with the window before instruction k, and that instruction, this crate's functions may be
--- called, and give its times, its place and the window before the next. The window after the last instruction holds the finishing time.
+-- called, and give its times and the window before the next. The window after the last instruction holds the finishing time.
 use Prim.Native.Nat.{ℕ, suc, _+_, _≤_, _<_}
 use mathlib.Core.Path.{_≡_, sym, ap, subst, _∙_}
 use native.Mathlib.Numerals.{add-one}
 use native.Mathlib.Omega.{arith}
 use lib.ListN.{length, take}
 use Rattle.machine.specs.Instruction.{Instruction, Trace, instruction}
-use Rattle.machine.specs.Rules.{Place, after}
 use Rattle.machine.specs.Time.{bound, finish}
 use Rattle.machine.proofs.Bounds.{bound-take}
-use Rattle.machine.proofs.Window.{Window, Times, noWindow, timesFrom, slide, windowBefore, timesAt, placeAt}
+use Rattle.machine.proofs.Window.{Window, Times, noWindow, timesFrom, slide, windowBefore, timesAt}
 use Rattle.machine.proofs.WindowBounds.{TimesWithin, times-fit}
-use Rattle.machine.proofs.WindowPlaces.{window-place}
 use Rattle.machine.proofs.WindowTimes.{window-starts, window-slides, window-finish}
 use Rattle.schedule.specs.Code.{maxTime, Room}
 use Rattle.schedule.proofs.Room.{room}
@@ -46,7 +44,3 @@ module _ (trace : Trace) where
 
     pub pass-slides : {e : Times} {v : Window} → e ≡ timesFrom w i → v ≡ slide w i e → v ≡ windowBefore trace (k + 1)
     pass-slides p q = q ∙ rw (pass-times p, at, this, add-one k) (sym (window-slides trace k))
-
-    -- and what `place_at` gives
-    pub pass-place : {e : Times} (t : ℕ) → e ≡ timesFrom w i → placeAt i e t ≡ after trace t k
-    pass-place t p = rw (pass-times p, this) (sym (window-place trace t k inside))

@@ -4,9 +4,6 @@ use borrow.Author.Tests.{lt-ltb, le-ltb}
 use borrow.Author.Needs.{needs}
 use Rattle.record.proofs.layout.fields_at.Statement.{statement}
 use Rattle.record.proofs.layout.fields_at.Tie as tie
-use Rattle.record.proofs.layout.fields_at.Reads as reads
-use Rattle.record.proofs.layout.fields_at.Lts as lts
-use Rattle.record.proofs.layout.fields_from.Reads as fields-from-reads
 
 mul-fields-from : tie.Need-mul-fields-from
 mul-fields-from c = search needs

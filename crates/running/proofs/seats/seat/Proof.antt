@@ -1,4 +1,4 @@
--- `seat` meets its contract: by its last time an instruction that is fetched is in post or in a slot, and so it is in the numbers.
+-- `seat` meets its contract: by its time of leaving an instruction that is fetched is in post or in a slot, and so it is in the numbers.
 use native.Mathlib.Omega.{arith}
 use borrow.Author.Needs.{needs}
 use Rattle.running.proofs.Seating.{within-seats, seat-slot, seat-post}
