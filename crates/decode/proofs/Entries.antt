@@ -4,13 +4,14 @@ use mathlib.Core.Bool.{Bool, cond, _&&_}
 use mathlib.Core.Path.{_≡_, ap, _∙_}
 use native.Mathlib.Omega.{arith}
 use lib.Dec.{eqb}
+use Rattle.machine.specs.Test.{_and_, _or_}
 use Rattle.machine.specs.Instruction.{Instruction}
-use Rattle.machine.specs.Rules.{Stage, IF, MEM, ST, isLoad, isStore, misses, entry}
+use Rattle.machine.specs.Rules.{Stage, IF, MEM, ST, isLoad, isStore, misses, entry, missesData}
 use Rattle.machine.proofs.Connectives.{Value, passed, failed, value}
 use Rattle.machine.proofs.Window.{lastCount}
 use Rattle.record.specs.declared.layout.Fields.{Fields}
 use Rattle.record.specs.Rules.{flagOf, instructionOf}
-use Rattle.decode.specs.Stores.{StoreTakesTime}
+use Rattle.decode.specs.Access.{AccessLawful}
 use Rattle.decode.proofs.Joined.{both}
 use Rattle.decode.proofs.Numbers.{miss-number}
 
@@ -18,16 +19,25 @@ use Rattle.decode.proofs.Numbers.{miss-number}
 pub entry-of : (k : Stage) {i j : Instruction} → i ≡ j → entry i k ≡ entry j k
 entry-of k e = ap (λ (i : Instruction). entry i k) e
 
+-- only a load or store misses
+misses-only : (i : Instruction) → AccessLawful i → Value (isLoad (i .kind) or isStore (i .kind)) → misses (i .access) ≡ missesData i
+unfolding missesData _and_
+misses-only i lawful (passed e) = rw e
+misses-only i lawful (failed e) = rw (e, lawful .no-access e)
+
+pub misses-alone : (i : Instruction) → AccessLawful i → misses (i .access) ≡ missesData i
+misses-alone i lawful = misses-only i lawful (value (isLoad (i .kind) or isStore (i .kind)))
+
 cycles-more
     : (i : Instruction) →
-    StoreTakesTime i →
+    AccessLawful i →
     Value (isStore (i .kind)) →
     Value (misses (i .access)) →
     cond (isStore (i .kind) && misses (i .access)) (i .dataLatency) 1 ≡ lastCount i + 1
 unfolding lastCount entry
-cycles-more i takes (passed e) (passed m) = rw (e, m) (let some = takes e in omega arith)
-cycles-more i takes (passed e) (failed m) = rw (e, m)
-cycles-more i takes (failed e) m = rw e
+cycles-more i lawful (passed e) (passed m) = rw (e, m) (let some = lawful .some-access e in omega arith)
+cycles-more i lawful (passed e) (failed m) = rw (e, m)
+cycles-more i lawful (failed e) m = rw e
 
 module _ (f : Fields) where
   abbrev i : Instruction
@@ -51,10 +61,10 @@ module _ (f : Fields) where
 
   -- one cycle more than the count, which for a store that misses is the latency less 1
   pub last-cycles
-      : StoreTakesTime i →
+      : AccessLawful i →
       {store : Bool} {r : ℕ} →
       store ≡ isStore (i .kind) →
       r ≡ cond (store && eqb (f .access) 1) (f .«data_latency») 1 →
       r ≡ lastCount i + 1
   unfolding instructionOf
-  last-cycles takes {store} p q = q ∙ rw (miss-number (f .access), p) (cycles-more i takes (value (isStore (i .kind))) (value (misses (i .access))))
+  last-cycles lawful {store} p q = q ∙ rw (miss-number (f .access), p) (cycles-more i lawful (value (isStore (i .kind))) (value (misses (i .access))))

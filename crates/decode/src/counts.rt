@@ -5,7 +5,7 @@ ghost use Prim.Native.Nat.{_+_};
 ghost use Rattle.machine.specs.Rules.{IF, MEM, ST, entry};
 ghost use Rattle.machine.proofs.Window.{lastCount};
 ghost use Rattle.record.specs.Rules.{instructionOf};
-ghost use Rattle.decode.specs.Stores.{StoreTakesTime};
+ghost use Rattle.decode.specs.Access.{AccessLawful};
 use crate::choice::choose;
 use crate::choice::less;
 use crate::kinds::MISS;
@@ -41,7 +41,7 @@ pub fn count_in_last(f: Fields) -> u32
 // How many cycles it spends in its last stage, one more than its count there: for a store that
 // misses, its data latency, which is at least 1.
 pub fn cycles_in_last(f: Fields) -> u32
-    requires { ⌜ StoreTakesTime (instructionOf f) ⌝ }
+    requires { ⌜ AccessLawful (instructionOf f) ⌝ }
     ensures { λ r. ⌜ r ≡ lastCount (instructionOf f) + 1 ⌝ }
 {
     choose(is_store(f) & (f.access == MISS), f.data_latency, 1)

@@ -1,6 +1,6 @@
 // Kinds and flags by name, and what the rules ask of them.
 ghost use mathlib.Core.Path.{_≡_};
-ghost use Rattle.machine.specs.Rules.{isLoad, isStore, isBranch, hits, reads, missesData};
+ghost use Rattle.machine.specs.Rules.{isLoad, isStore, isBranch, hits, misses, reads, missesData};
 ghost use Rattle.record.specs.Rules.{instructionOf};
 use record::Fields;
 
@@ -41,11 +41,17 @@ pub fn fetch_hits(f: Fields) -> bool
     f.fetch == HIT
 }
 
+pub fn access_misses(f: Fields) -> bool
+    ensures { λ r. ⌜ r ≡ misses (instructionOf f .access) ⌝ }
+{
+    f.access == MISS
+}
+
 // Whether it is a load or store with a data miss.
 pub fn misses_data(f: Fields) -> bool
     ensures { λ r. ⌜ r ≡ missesData (instructionOf f) ⌝ }
 {
-    (is_load(f) | is_store(f)) & (f.access == MISS)
+    (is_load(f) | is_store(f)) & access_misses(f)
 }
 
 // Whether a register other than 0 is one of its sources.

@@ -1,29 +1,31 @@
 -- What a pass over an accepted body needs: the trace's bound is within the limit, and at each instruction the functions of `levels` may be called and
 -- lead to the next.
-use Prim.Native.Nat.{ℕ, _+_, _≤_, _<_}
+use Prim.Native.Nat.{ℕ, zero, suc, _+_, _≤_, _<_}
 use mathlib.Core.List.{List}
-use mathlib.Core.Bool.{true}
-use mathlib.Core.Logic.{inr}
-use mathlib.Core.Path.{_≡_, sym, ap, subst, _∙_}
+use mathlib.Core.Bool.{true, false}
+use mathlib.Core.Logic.{inl, inr}
+use mathlib.Core.Path.{_≡_, refl, sym, ap, subst, _∙_}
 use native.Mathlib.Omega.{arith}
 use borrow.Author.Tests.{lt-ltb, eqb-true}
 use lib.ListN.{length}
 use Rattle.machine.specs.Instruction.{Flag, Instruction, Trace, instruction}
-use Rattle.machine.specs.Rules.{isStore}
-use Rattle.machine.specs.Time.{bound, settleInstruction, settle}
+use Rattle.machine.specs.Rules.{isLoad, isStore}
+use Rattle.machine.specs.Test.{_or_}
+use Rattle.machine.specs.Time.{bound, settleFlag, settleInstruction, settle}
 use Rattle.machine.proofs.Bounds.{Limited, bound-limited}
+use Rattle.machine.proofs.Connectives.{clash}
 use Rattle.machine.proofs.Finish.{finish-bounded}
 use Rattle.machine.proofs.Window.{Window, Times, timesFrom, slide, windowBefore, timesAt}
 use Rattle.machine.proofs.WindowBounds.{TimesWithin}
 use Rattle.record.specs.declared.layout.Fields.{Fields}
 use Rattle.record.specs.declared.layout.Read.{Read}
-use Rattle.record.specs.Rules.{kindOf, instructionOf}
+use Rattle.record.specs.Rules.{kindOf, flagOf, instructionOf}
 use Rattle.record.specs.Body.{Bytes, records, fieldsAt, traceOf, bodyRefusal, readAnswer}
 use Rattle.record.proofs.Accepted.{few-records, fields-within}
 use Rattle.record.proofs.Encoding.{length-traceOf, instruction-traceOf}
 use Rattle.record.proofs.Within.{OneOf, Within}
 use Rattle.schedule.specs.Code.{maxTime, FinishWithin, Room}
-use Rattle.decode.specs.Stores.{StoreTakesTime}
+use Rattle.decode.specs.Access.{AccessLawful}
 use Rattle.decode.proofs.Numbers.{store-number}
 use Rattle.schedule.proofs.Pass.{pass-fits, pass-room, pass-times, pass-slides}
 use Rattle.schedule.proofs.Settled.{length-settle, instruction-settle, bound-settle}
@@ -32,13 +34,29 @@ within-limited : (f : Fields) → Within f → Limited (instructionOf f)
 unfolding instructionOf
 within-limited f w = record { executionLatency = w .execution; fetchLatency = w .fetchLatency .1; dataLatency = w .dataLatency }
 
--- "data latency, 1 to 65,535 for kinds 1 and 2"
+-- a lawful record stands for an instruction whose access is lawful, settled or not
+no-access-kind : (n : ℕ) → n ≤ 3 → (isLoad (kindOf n) or isStore (kindOf n)) ≡ false → OneOf n 0 3
+unfolding kindOf _or_
+no-access-kind zero l e = inl refl
+no-access-kind (suc zero) l e = clash refl e
+no-access-kind (suc (suc zero)) l e = clash refl e
+no-access-kind (suc (suc (suc zero))) l e = inr refl
+no-access-kind (suc (suc (suc (suc n)))) l e = absurd (omega arith)
+
 store-kind : (n : ℕ) → isStore (kindOf n) ≡ true → OneOf n 1 2
 store-kind n e = inr (eqb-true n 2 (store-number n ∙ e))
 
-store-takes-time : (f : Fields) → Within f → StoreTakesTime (instructionOf f)
-unfolding instructionOf
-store-takes-time f w e = w .some-access (store-kind (f .kind) e)
+within-lawful : (f : Fields) → Within f → AccessLawful (instructionOf f)
+unfolding instructionOf flagOf
+within-lawful f w =
+    record {
+      no-access = λ e. ap flagOf (w .no-access (no-access-kind (f .kind) (w .kind) e) .0);
+      some-access = λ e. w .some-access (store-kind (f .kind) e);
+    }
+
+settled-lawful : (to : Flag) (i : Instruction) → AccessLawful i → AccessLawful (settleInstruction to i)
+unfolding settleInstruction settleFlag
+settled-lawful to i lawful = record { no-access = λ e. ap (settleFlag to) (lawful .no-access e); some-access = lawful .some-access }
 
 module _ (body : List ℕ) (b : Bytes body) (accepted : bodyRefusal body ≡ 0) where
   pub small : bound (traceOf body) ≤ maxTime
@@ -70,14 +88,13 @@ module _ (body : List ℕ) (b : Bytes body) (accepted : bodyRefusal body ≡ 0) 
   in-trace : k < length trace
   in-trace = omega (arith, length-settled body to)
 
-  takes-time : StoreTakesTime (instruction trace k)
-  unfolding settleInstruction
-  takes-time =
+  lawful : AccessLawful (instruction trace k)
+  lawful =
       rw (instruction-settle to (traceOf body) k, instruction-traceOf body k inside)
-      (store-takes-time (fieldsAt body k) (fields-within body accepted b k inside))
+      (settled-lawful to (instructionOf (fieldsAt body k)) (within-lawful (fieldsAt body k) (fields-within body accepted b k inside)))
 
-  pub turn-fits : TimesWithin maxTime (timesFrom w i) × StoreTakesTime i
-  turn-fits = (pass-fits trace (settled-small body b accepted to) k in-trace at this, subst StoreTakesTime (sym this) takes-time)
+  pub turn-fits : TimesWithin maxTime (timesFrom w i) × AccessLawful i
+  turn-fits = (pass-fits trace (settled-small body b accepted to) k in-trace at this, subst AccessLawful (sym this) lawful)
 
   module _ {e : Times} (timed : e ≡ timesFrom w i) where
     pub turn-room : Room i e

@@ -17,8 +17,9 @@ ghost use Rattle.machine.proofs.Window.{
 };
 ghost use Rattle.machine.proofs.WindowBounds.{TimesWithin};
 ghost use Rattle.record.specs.Rules.{instructionOf};
-ghost use Rattle.decode.specs.Stores.{StoreTakesTime};
+ghost use Rattle.decode.specs.Access.{AccessLawful};
 ghost use Rattle.schedule.specs.Code.{windowOf, timesOf, maxTime, Room};
+use decode::access_misses;
 use decode::choose;
 use decode::count_in_if;
 use decode::count_in_mem;
@@ -28,7 +29,6 @@ use decode::holds_fetches;
 use decode::is_load;
 use decode::is_store;
 use decode::later;
-use decode::misses_data;
 use decode::reads;
 use record::Fields;
 
@@ -103,11 +103,12 @@ pub fn enter_ex(w: Window, f: Fields, from: u32) -> u32
     later(from + 1, later(w.MEM, load))
 }
 
+// An access that misses is a load's or a store's, by the record rules.
 pub fn enter_mem(w: Window, f: Fields, from: u32) -> u32
-    requires { ⌜ from + entry (instructionOf f) EX + 1 < 2 ^ 32 ⌝ }
+    requires { ⌜ (from + entry (instructionOf f) EX + 1 < 2 ^ 32) × AccessLawful (instructionOf f) ⌝ }
     ensures { λ r. ⌜ r ≡ enterMEM (windowOf w) (instructionOf f) from ⌝ }
 {
-    let store = choose(misses_data(f), w.store_done, 0);
+    let store = choose(access_misses(f), w.store_done, 0);
     later(from + (f.execution + 1), later(w.last, store))
 }
 
@@ -122,7 +123,7 @@ pub fn enter_last(w: Window, f: Fields, from: u32) -> u32
 }
 
 pub fn enter_post(f: Fields, from: u32) -> u32
-    requires { ⌜ (from + lastCount (instructionOf f) + 1 < 2 ^ 32) × StoreTakesTime (instructionOf f) ⌝ }
+    requires { ⌜ (from + lastCount (instructionOf f) + 1 < 2 ^ 32) × AccessLawful (instructionOf f) ⌝ }
     ensures { λ r. ⌜ r ≡ enterPost (instructionOf f) from ⌝ }
 {
     from + cycles_in_last(f)
@@ -130,7 +131,7 @@ pub fn enter_post(f: Fields, from: u32) -> u32
 
 // All six, each from the one before.
 pub fn times_from(w: Window, f: Fields) -> Times
-    requires { ⌜ TimesWithin maxTime (timesFrom (windowOf w) (instructionOf f)) × StoreTakesTime (instructionOf f) ⌝ }
+    requires { ⌜ TimesWithin maxTime (timesFrom (windowOf w) (instructionOf f)) × AccessLawful (instructionOf f) ⌝ }
     ensures { λ r. ⌜ timesOf r ≡ timesFrom (windowOf w) (instructionOf f) ⌝ }
 {
     let at_if = enter_if(w, f);

@@ -4,11 +4,13 @@ use Rattle.record.specs.Rules.{instructionOf}
 use native.Mathlib.Omega.{arith}
 use Rattle.schedule.proofs.Steps.{MEM-step}
 use borrow.Author.Needs.{needs}
+use mathlib.Core.Path.{_∙_}
+use Rattle.decode.proofs.Entries.{misses-alone}
 use Rattle.schedule.proofs.levels.enter_mem.Statement.{statement}
 use Rattle.schedule.proofs.levels.enter_mem.Tie as tie
 
-misses-data-requires : tie.Need-misses-data-requires
-misses-data-requires c κs = search needs
+access-misses-requires : tie.Need-access-misses-requires
+access-misses-requires c κs = search needs
 
 choose-requires : tie.Need-choose-requires
 choose-requires c κs = search needs
@@ -28,13 +30,13 @@ later-requires-2 : tie.Need-later-requires-2
 later-requires-2 c κs = search needs
 
 returns : tie.Need-returns
-returns c = MEM-step _ _ _ (c .before .before .before .before .misses-data .ensures) (c .before .before .before .choose .ensures) (c .before .later .ensures) (c .later2 .ensures)
+returns c = MEM-step _ _ _ (c .before .before .before .before .access-misses .ensures ∙ misses-alone _ (c .before .before .before .before .before .pre .1)) (c .before .before .before .choose .ensures) (c .before .later .ensures) (c .later2 .ensures)
 
 pub enter-mem-spec : {M : Type 1} → statement M
 enter-mem-spec =
     tie.close
     (tie.spec
-    misses-data-requires
+    access-misses-requires
     choose-requires
     add-later
     add-later-2

@@ -22,7 +22,7 @@ enter-mem-requires c κs =
     let fetched = at-IF _ _ (c .before .before .enter-if .ensures) in
     let decoded = at-ID _ _ fetched (c .before .enter-id .ensures) in
     let executed = at-EX _ _ decoded (c .enter-ex .ensures) in
-    room-in-EX _ _ (c .before .before .before .pre .0) executed
+    (room-in-EX _ _ (c .before .before .before .pre .0) executed, c .before .before .before .pre .1)
 
 enter-last-requires : tie.Need-enter-last-requires
 enter-last-requires c κs =
