@@ -2,9 +2,9 @@
 use super::input::byte;
 use super::input::find;
 use super::input::parse;
-use model_drawing::field;
-use model_drawing::last;
-use model_drawing::text;
+use model_chart_text::field;
+use model_chart_text::last;
+use model_chart_text::text;
 ghost use Prim.Native.Nat.{_<_};
 
 pub fn lines(s: &[u8]) {
@@ -107,7 +107,7 @@ fn leaving(body: &[u8]) {
 // C: the chart of a job file.
 fn chart(file: &[u8]) {
     text(b"\n");
-    model_drawing::print_chart(file);
+    model_chart_text::print_chart(file);
 }
 
 // Where Open finds a trace, or why it does not.

@@ -1,6 +1,6 @@
 // Job files at their borders: 16 and 17 traces, a trace of 4,096 and of 4,097 instructions.
 use super::commands::opened;
-use model_drawing::text;
+use model_chart_text::text;
 ghost use Prim.Native.Nat.{_≤_};
 
 fn put(file: &mut [u8], at: usize, b: u8) {

@@ -1,5 +1,5 @@
 // Borders that take long bodies and files.
-use model_drawing::last;
+use model_chart_text::last;
 
 // Bytes that are all 1 make loads that keep the rules.
 fn bodies() {

@@ -1,8 +1,8 @@
 // Cases that are generated: plain instructions in a row, limits on a run, margins.
 use super::files::put_plain;
-use model_drawing::field;
-use model_drawing::last;
-use model_drawing::text;
+use model_chart_text::field;
+use model_chart_text::last;
+use model_chart_text::text;
 ghost use Prim.Native.Nat.{_≤_};
 
 fn time(body: &[u8]) {

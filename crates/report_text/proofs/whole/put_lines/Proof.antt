@@ -1,0 +1,73 @@
+-- `report_text::whole::put_lines` meets its contract: at the loop's head the lines of the first t traces are put, and their met deadlines counted.
+use Prim.Native.Nat.{ℕ, _+_, _*_, _-_, _≤_}
+use mathlib.Core.Path.{_≡_, refl, sym, ap, ap₂, _∙_}
+use native.Mathlib.Omega.{arith}
+use native.Mathlib.Numerals.{add-one}
+use lib.ListN.{length}
+use Rattle.job.proofs.Accepted.{open-accepted}
+use Rattle.text.specs.Text.{Wrote}
+use Rattle.text.proofs.Pieces.{wrote-nothing, wrote-then, as-text}
+use Rattle.report_text.specs.Report.{lineText, linesText, met, metBelow}
+use Rattle.report_text.proofs.Fits.{few-traces, line-small}
+use Rattle.report_text.proofs.whole.put_lines.Statement.{statement}
+use Rattle.report_text.proofs.whole.put_lines.Tie as tie
+use Rattle.report_text.proofs.whole.put_lines.Reads as reads
+use Rattle.report_text.proofs.whole.put_lines.Lts as lts
+use Rattle.report_text.proofs.figures.line_at.Reads as line-at-reads
+use Rattle.report_text.proofs.figures.met_by.Reads as met-by-reads
+use Rattle.report_text.proofs.lines.put_line.Reads as put-line-reads
+
+abbrev Inv-loop : tie.InvT-loop
+Inv-loop file deadlines out₀ at all end₀ met₀ t₀ out end met t = (t ≤ all) × (met ≡ metBelow file deadlines t) × (met ≤ t) × (length out ≡ length out₀) × (end ≡ at + 78 * t) × Wrote at (linesText file deadlines t) out₀ out end
+
+abbrev μ-loop : tie.MeasureT-loop
+μ-loop file deadlines out₀ at all end₀ met₀ t₀ out end met t = all - t
+
+loop-holds : tie.Need-loop-holds Inv-loop μ-loop
+unfolding linesText metBelow
+loop-holds c = (omega arith, refl, omega arith, refl, omega arith, wrote-nothing _ _ (omega (arith, c .before .before .before .pre .2)))
+
+line-at-requires : tie.Need-line-at-requires Inv-loop μ-loop
+line-at-requires c κs = open-accepted _ _ (c .before .before .before .before .before .pre .0) (omega (arith, c .loop-test .taken, c .before .before .before .before .before .pre .1))
+
+put-line-requires : tie.Need-put-line-requires Inv-loop μ-loop
+put-line-requires c κs = let a = c .before .before .before .before .before .before .before .args in let i = c .before .before .before .loop .inv in let small = line-small (a .file .now) (c .before .before .before .before .before .before .before .pre .0) (a .deadlines .now) (c .before .before .before .loop .t) (omega (arith, c .before .before .loop-test .taken, c .before .before .before .before .before .before .before .pre .1)) (c .before .line-at .ensures) in (small .0, small .1, omega (arith, i .3, i .4, c .before .before .loop-test .taken, c .before .before .before .before .before .before .before .pre .2))
+
+met-by-requires : tie.Need-met-by-requires Inv-loop μ-loop
+met-by-requires c κs = tt
+
+add-met : tie.Need-add-met Inv-loop μ-loop
+add-met c = omega (arith, c .before .before .before .before .before .before .before .loop .inv .2, c .met-by .ensures .1, c .before .before .before .before .before .before .loop-test .taken, few-traces _ (c .before .before .before .before .before .before .before .before .before .before .before .pre .0), c .before .before .before .before .before .before .before .before .before .before .before .pre .1)
+
+add-t : tie.Need-add-t Inv-loop μ-loop
+add-t c = omega (arith, c .before .before .before .before .before .before .loop-test .taken, few-traces _ (c .before .before .before .before .before .before .before .before .before .before .before .pre .0), c .before .before .before .before .before .before .before .before .before .before .before .pre .1)
+
+loop-less : tie.Need-loop-less Inv-loop μ-loop
+loop-less c = omega (arith, c .before .before .before .before .before .before .loop-test .taken)
+
+loop-again : tie.Need-loop-again Inv-loop μ-loop
+unfolding linesText metBelow
+loop-again c = let a = c .before .before .before .before .before .before .before .before .before .before .before .args in let file = a .file .now in let deadlines = a .deadlines .now in let t = c .before .before .before .before .before .before .before .loop .t in let i = c .before .before .before .before .before .before .before .loop .inv in let line = c .before .before .before .before .before .line-at .ensures in (omega (arith, c .before .before .before .before .before .before .loop-test .taken), ap₂ (λ (m n : ℕ). m + n) (i .1) (c .met-by .ensures .0 ∙ ap met line) ∙ ap (metBelow file deadlines) (sym (add-one t)), omega (arith, i .2, c .met-by .ensures .1), c .before .before .before .put-line .kept .0 ∙ i .3, omega (arith, i .4, c .before .before .before .put-line .ensures .0), as-text _ _ (ap (linesText file deadlines) (sym (add-one t))) (wrote-then _ _ _ _ (i .5) (as-text _ _ (ap lineText line) (c .before .before .before .put-line .ensures .1))))
+
+same-length : tie.Need-same-length Inv-loop μ-loop
+same-length c = c .before .loop .inv .3
+
+returns : tie.Need-returns Inv-loop μ-loop
+returns c = let a = c .before .before .before .before .before .args in let i = c .before .loop .inv in let end : c .before .loop .t ≡ a .all = omega (arith, c .loop-test .left, i .0) in (i .1 ∙ ap (metBelow (a .file .now) (a .deadlines .now)) end, i .4 ∙ ap (λ (n : ℕ). a .at + 78 * n) end, as-text _ _ (ap (linesText (a .file .now) (a .deadlines .now)) end) (i .5))
+
+pub put-lines-spec : {M : Type 1} → statement M
+put-lines-spec =
+    tie.close
+    (tie.spec
+    Inv-loop
+    μ-loop
+    loop-holds
+    line-at-requires
+    put-line-requires
+    met-by-requires
+    add-met
+    add-t
+    loop-less
+    loop-again
+    same-length
+    returns)

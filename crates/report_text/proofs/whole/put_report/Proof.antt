@@ -1,0 +1,43 @@
+-- `report_text::whole::put_report` meets its contract: the header, the lines and the last line are the report.
+use mathlib.Core.Path.{ap, ap₂, _∙_}
+use Rattle.text.specs.Text.{spaces, right}
+use Rattle.text.proofs.Pieces.{wrote-then, as-text}
+use Rattle.report_text.specs.Report.{headerText, column, linesText, metBelow, lastText, reportText}
+use borrow.Author.Needs.{needs}
+use Rattle.report_text.proofs.whole.put_report.Statement.{statement}
+use Rattle.report_text.proofs.whole.put_report.Tie as tie
+use Rattle.report_text.proofs.whole.put_report.Reads as reads
+use Rattle.report_text.proofs.whole.put_report.Lts as lts
+use Rattle.report_text.proofs.lines.put_last.Reads as put-last-reads
+use Rattle.report_text.proofs.whole.put_lines.Reads as put-lines-reads
+use Rattle.text.proofs.put_text.Reads as put-text-reads
+
+slice-aggregate-put-text : tie.Need-slice-aggregate-put-text
+slice-aggregate-put-text c = search needs
+
+put-text-requires : tie.Need-put-text-requires
+put-text-requires c κs = search needs
+
+put-lines-requires : tie.Need-put-lines-requires
+put-lines-requires c κs = search needs
+
+put-last-requires : tie.Need-put-last-requires
+put-last-requires c κs = search needs
+
+same-length : tie.Need-same-length
+same-length c = search needs
+
+returns : tie.Need-returns
+unfolding reportText headerText column right spaces
+returns c = let a = c .before .before .before .before .before .before .before .before .before .before .before .before .before .before .before .before .args in let file = a .file .now in let deadlines = a .deadlines .now in let count = c .before .before .before .before .before .before .before .before .before .before .before .before .before .before .before .before .pre .1 in wrote-then _ _ _ _ (wrote-then _ _ _ _ (c .before .before .before .before .before .before .before .before .before .before .put-text .ensures) (as-text _ _ (ap (linesText file deadlines) count) (c .before .before .before .before .before .before .put-lines .ensures .2))) (as-text _ _ (ap₂ lastText (c .before .before .before .before .before .before .put-lines .ensures .0 ∙ ap (metBelow file deadlines) count) count) (c .before .before .put-last .ensures))
+
+pub put-report-spec : {M : Type 1} → statement M
+put-report-spec =
+    tie.close
+    (tie.spec
+    slice-aggregate-put-text
+    put-text-requires
+    put-lines-requires
+    put-last-requires
+    same-length
+    returns)

@@ -1,0 +1,111 @@
+// The whole report: the header, a line for each trace, and how many deadlines are met.
+ghost use mathlib.Core.Path.{_≡_};
+ghost use Prim.Native.Nat.{_+_, _*_, _≤_};
+ghost use lib.ListN.{length};
+ghost use Rattle.job.specs.Layout.{traces, maxTraces};
+ghost use Rattle.job.specs.Open.{fileRefusal};
+ghost use Rattle.text.specs.Text.{Wrote};
+ghost use Rattle.report_text.specs.Report.{
+  longest,
+  linesText,
+  metBelow,
+  reportText,
+  serves,
+  reportAnswer,
+  reportOutput,
+};
+use crate::figures::line_at;
+use crate::figures::met_by;
+use crate::lines::put_last;
+use crate::lines::put_line;
+use job::file_refusal;
+use little_endian::half;
+use text::put_text;
+
+// Room for any report: the header, 16 lines and the last line, its numbers taken as ten digits.
+pub const REPORT_BYTES: usize = 1365;
+
+// `traces` is 0 for a refused file, and `length` is 0 where no report was written.
+#[repr(C)]
+pub struct Reported {
+    pub refusal: u32,
+    pub traces: u32,
+    pub length: usize,
+}
+
+struct Lines {
+    end: usize,
+    met: u32,
+}
+
+fn put_lines(file: &[u8], deadlines: &[u32], out: &mut [u8], at: usize, all: u32) -> Lines
+    requires { ⌜ (fileRefusal (now file) ≡ 0) × (all ≡ traces (now file)) × (at + 78 * all ≤ length (now out)) ⌝ }
+    ensures { λ r. ⌜ (r .met ≡ metBelow (now (file .entry)) (now (deadlines .entry)) all) × (r .end ≡ at + 78 * all) × Wrote at (linesText (now (file .entry)) (now (deadlines .entry)) all) (now (out .entry)) (now (out .exit)) (r .end) ⌝ }
+{
+    let mut end = at;
+    let mut met = 0;
+    let mut t = 0;
+    while t < all {
+        let line = line_at(file, deadlines, t);
+        end = put_line(out, end, line);
+        met += met_by(line);
+        t += 1;
+    }
+    Lines { end, met }
+}
+
+fn put_report(file: &[u8], deadlines: &[u32], out: &mut [u8], all: u32) -> usize
+    requires { ⌜ (fileRefusal (now file) ≡ 0) × (all ≡ traces (now file)) × (all ≤ maxTraces) × (longest ≤ length (now out)) ⌝ }
+    ensures { λ r. ⌜ Wrote 0 (reportText (now (file .entry)) (now (deadlines .entry))) (now (out .entry)) (now (out .exit)) r ⌝ }
+{
+    let first = put_text(
+        out,
+        0,
+        b"     margin  trace  instructions  unknown        best       worst    deadline\n",
+    );
+    let lines = put_lines(file, deadlines, out, first, all);
+    put_last(out, lines.end, lines.met, all)
+}
+
+// One deadline for all traces, or one for each.
+fn serve(deadlines: usize, all: u32) -> bool
+    ensures { λ r. ⌜ r ≡ serves deadlines all ⌝ }
+{
+    (deadlines == 1) | (deadlines == all as usize)
+}
+
+// Writes the report to the start of the output; bytes past it keep their values. A refused file,
+// deadlines that are neither one nor as many as the traces, and an output with less room than the
+// longest report may take leave the output as it is.
+pub fn report(file: &[u8], deadlines: &[u32], out: &mut [u8]) -> Reported
+    ensures { λ r. ⌜ (r ≡ reportAnswer (now (file .entry)) (now (deadlines .entry)) (length (now (out .entry)))) × (now (out .exit) ≡ reportOutput (now (file .entry)) (now (deadlines .entry)) (now (out .entry))) ⌝ }
+{
+    let refusal = file_refusal(file);
+    if refusal != 0 {
+        return Reported {
+            refusal,
+            traces: 0,
+            length: 0,
+        };
+    }
+    let all = half(file, 0);
+    if !serve(deadlines.len(), all) {
+        return Reported {
+            refusal: 0,
+            traces: all,
+            length: 0,
+        };
+    }
+    if out.len() < REPORT_BYTES {
+        return Reported {
+            refusal: 0,
+            traces: all,
+            length: 0,
+        };
+    }
+    Reported {
+        refusal: 0,
+        traces: all,
+        length: put_report(file, deadlines, out, all),
+    }
+}
