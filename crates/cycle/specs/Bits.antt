@@ -7,7 +7,8 @@ use Rattle.machine.specs.Rules.{Stage, pre, IF, ID, EX, MEM, ST, WB, post}
 use Rattle.machine.specs.State.{slot}
 use Rattle.machine.specs.declared.Slot.{Slot}
 use Rattle.machine.specs.declared.State.{State}
-use Rattle.machine.proofs.BySlots.{pending, goes}
+use Rattle.machine.proofs.BySlots.{goes}
+use Rattle.machine.proofs.Hazards.{pending}
 use Rattle.cycle.specs.declared.moving.Bits.{Bits}
 
 abbrev pub bitsOf : (Stage → Bool) → Bits

@@ -5,7 +5,7 @@ use mathlib.Core.Path.{_≡_, _∙_, sym}
 use native.Mathlib.Omega.{arith}
 use lib.Dec.{ltb}
 use Rattle.machine.specs.Instruction.{Instruction}
-use Rattle.machine.specs.Rules.{IF, EX, MEM, isLoad, isStore, isBranch, hits, entry, reads, missesData}
+use Rattle.machine.specs.Rules.{IF, EX, MEM, isLoad, isStore, holdsFetches, hits, entry, reads, missesData}
 use Rattle.machine.specs.Time.{settleInstruction}
 use Rattle.machine.proofs.Window as Theory
 use Rattle.machine.proofs.Window.{enterIF, enterID, enterEX, enterMEM, enterLast}
@@ -99,7 +99,7 @@ module _ (f : Fields) where
     pub slid
         : (e : Times) {branchDone loadDone storeDone loadTarget finish count : ℕ} {load branch store : Bool} →
         load ≡ isLoad (i .kind) →
-        branch ≡ isBranch (i .kind) →
+        branch ≡ holdsFetches (i .kind) →
         branchDone ≡ cond branch (e .EX + (f .execution + 1)) (w .«branch_done») →
         count ≡ entry i MEM →
         loadDone ≡ cond load (e .MEM + (count + 1)) (w .«load_done») →
