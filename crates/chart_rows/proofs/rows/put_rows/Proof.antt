@@ -1,4 +1,4 @@
--- `chart_text::rows::put_rows` meets its contract: each row is the state that a run for as many cycles gives.
+-- `chart_rows::rows::put_rows` meets its contract: each row is the state that a run for as many cycles gives.
 use Prim.Native.Nat.{suc, _-_, _≤_}
 use mathlib.Core.Path.{_≡_, refl, sym, ap, _∙_}
 use native.Mathlib.Numerals.{add-one}
@@ -10,11 +10,12 @@ use Rattle.record.specs.Rules.{flagOf}
 use Rattle.record.specs.Body.{traceOf}
 use Rattle.running.proofs.RunAnswer.{state-ran}
 use Rattle.text.specs.Text.{Wrote}
-use Rattle.chart_text.specs.Chart.{rowText, rowsText}
+use Rattle.chart_lines.specs.Lines.{rowText}
+use Rattle.chart_rows.specs.Rows.{rowsText}
 use Rattle.text.proofs.Pieces.{wrote-nothing, wrote-then, as-text}
-use Rattle.chart_text.proofs.Lines.{rows-short}
-use Rattle.chart_text.proofs.rows.put_rows.Statement.{statement}
-use Rattle.chart_text.proofs.rows.put_rows.Tie as tie
+use Rattle.chart_rows.proofs.Length.{rows-short}
+use Rattle.chart_rows.proofs.rows.put_rows.Statement.{statement}
+use Rattle.chart_rows.proofs.rows.put_rows.Tie as tie
 
 abbrev Inv-loop : tie.InvT-loop
 Inv-loop body out₀ at last next₀ cycle₀ out next cycle = (cycle ≤ suc last) × (length out ≡ length out₀) × Wrote at (rowsText (settle miss (traceOf body)) cycle) out₀ out next

@@ -1,15 +1,15 @@
--- `chart_text::rows::put_row` meets its contract: the cycle, the six slots and the line's end are one text.
+-- `chart_lines::lines::put_row` meets its contract: the cycle, the six slots and the line's end are one text.
 use native.Mathlib.Omega.{arith}
 use mathlib.Core.Path.{_∙_}
-use Rattle.chart_text.specs.Chart.{rowText}
+use Rattle.chart_lines.specs.Lines.{rowText}
 use Rattle.text.proofs.Pieces.{wrote-then, decimal-short}
-use Rattle.chart_text.proofs.Lines.{slot-short}
+use Rattle.chart_lines.proofs.Lengths.{slot-short}
 use borrow.Author.Needs.{needs}
-use Rattle.chart_text.proofs.rows.put_row.Statement.{statement}
-use Rattle.chart_text.proofs.rows.put_row.Tie as tie
-use Rattle.chart_text.proofs.rows.put_row.Reads as reads
-use Rattle.chart_text.proofs.rows.put_row.Lts as lts
-use Rattle.chart_text.proofs.rows.put_slot.Reads as put-slot-reads
+use Rattle.chart_lines.proofs.lines.put_row.Statement.{statement}
+use Rattle.chart_lines.proofs.lines.put_row.Tie as tie
+use Rattle.chart_lines.proofs.lines.put_row.Reads as reads
+use Rattle.chart_lines.proofs.lines.put_row.Lts as lts
+use Rattle.chart_lines.proofs.lines.put_slot.Reads as put-slot-reads
 use Rattle.text.proofs.put_byte.Reads as put-byte-reads
 use Rattle.text.proofs.put_decimal.Reads as put-decimal-reads
 

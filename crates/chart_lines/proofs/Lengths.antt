@@ -1,18 +1,15 @@
--- The lines of a chart: a slot's text by cases, and upper bounds on the lengths of the pieces.
-use Prim.Native.Nat.{ℕ, zero, suc, _+_, _*_, _≤_, min}
-use mathlib.Core.Bool.{Bool, true, false}
+-- A slot's text by cases, and upper bounds on the lengths of the lines of a chart.
+use Prim.Native.Nat.{ℕ, _+_, _≤_}
+use mathlib.Core.Bool.{true, false}
 use mathlib.Core.List.{List, [], _∷_, _++_, append-assoc}
-use mathlib.Core.Path.{_≡_, refl, sym, ap, _∙_}
+use mathlib.Core.Path.{_≡_, sym, ap}
 use native.Mathlib.Omega.{arith}
 use lib.ListN.{length, length-append}
-use Rattle.machine.specs.Instruction.{Trace, miss}
-use Rattle.machine.specs.Time.{settle, best, worst}
 use Rattle.machine.specs.declared.Slot.{Slot}
 use Rattle.machine.specs.declared.State.{State}
 use Rattle.machine.proofs.Connectives.{Value, passed, failed, value}
-use Rattle.machine.proofs.RunStates.{stateAfter}
 use Rattle.text.specs.Text.{decimal}
-use Rattle.chart_text.specs.Chart.{headerText, slotText, rowText, rowsText, timesText, chartOf, refusalText, longest}
+use Rattle.chart_lines.specs.Lines.{slotText, rowText, timesText, refusalText}
 use Rattle.text.proofs.Pieces.{decimal-short}
 
 pub slot-filled : (s : Slot) → s .filled ≡ true → slotText s ≡ (32 ∷ []) ++ decimal (s .index) ++ (58 ∷ []) ++ decimal (s .count)
@@ -24,8 +21,8 @@ unfolding slotText
 slot-empty s e = rw e
 
 -- a text of at most n bytes
-record Short (n : ℕ) (text : List ℕ) : Type 0 where
-  within : length text ≤ n
+pub record Short (n : ℕ) (text : List ℕ) : Type 0 where
+  pub within : length text ≤ n
 
 one : (b : ℕ) → Short 1 (b ∷ [])
 one b = record { within = omega arith }
@@ -33,7 +30,7 @@ one b = record { within = omega arith }
 number : (n : ℕ) → Short 10 (decimal n)
 number n = record { within = decimal-short n }
 
-both : {m n : ℕ} {a b : List ℕ} → Short m a → Short n b → Short (m + n) (a ++ b)
+pub both : {m n : ℕ} {a b : List ℕ} → Short m a → Short n b → Short (m + n) (a ++ b)
 both {m} {n} {a} {b} h k =
     let e = length-append a b in
     let first = h .within in
@@ -50,7 +47,7 @@ slot-is-short s = slot-by s (value (s .filled))
 pub slot-short : (s : Slot) → length (slotText s) ≤ 22
 slot-short s = slot-is-short s .within
 
-row-is-short : (n : ℕ) (s : State) → Short 143 (rowText n s)
+pub row-is-short : (n : ℕ) (s : State) → Short 143 (rowText n s)
 unfolding rowText
 row-is-short n s =
     let cycle = number n in
@@ -61,34 +58,15 @@ row-is-short n s =
     let toST = both toMEM (slot-is-short (s .ST)) in
     both (both toST (slot-is-short (s .WB))) (one 10)
 
-pub rows-short : (trace : Trace) (n : ℕ) → length (rowsText trace n) ≤ 143 * n
-unfolding rowsText
-rows-short trace zero = omega arith
-rows-short trace (suc n) =
-    let more = length-append (rowsText trace n) (rowText n (stateAfter trace n)) in
-    let line = row-is-short n (stateAfter trace n) .within in
-    let rest = rows-short trace n in
-    omega arith
-
 six : (a b c d e f : ℕ) → Short 6 (a ∷ b ∷ c ∷ d ∷ e ∷ f ∷ [])
 six a b c d e f = record { within = omega arith }
 
-times-is-short : (latest earliest : ℕ) → Short 33 (timesText latest earliest)
+pub times-is-short : (latest earliest : ℕ) → Short 33 (timesText latest earliest)
 unfolding timesText
 times-is-short latest earliest =
     both (both (both (both (six 119 111 114 115 116 32) (number latest)) (six 32 98 101 115 116 32)) (number earliest)) (one 10)
 
--- the whole text is no longer than the room that an output must have
-pub chart-short : (trace : Trace) → length (chartOf trace) ≤ longest
-unfolding chartOf
-chart-short trace =
-    let rows = rowsText (settle miss trace) (suc (min (worst trace) 1000)) in
-    let long = rows-short (settle miss trace) (suc (min (worst trace) 1000)) in
-    let lines : Short 143143 rows = record { within = omega arith } in
-    let header : Short 25 headerText = record { within = omega arith } in
-    both (both header lines) (times-is-short (worst trace) (best trace)) .within
-
-pub refusal-short : (number : ℕ) → length (refusalText number) ≤ longest
+pub refusal-short : (number : ℕ) → length (refusalText number) ≤ 19
 unfolding refusalText
 refusal-short n =
     let l = length-append ((114 ∷ 101 ∷ 102 ∷ 117 ∷ 115 ∷ 101 ∷ 100 ∷ 32 ∷ []) ++ decimal n) (10 ∷ []) in

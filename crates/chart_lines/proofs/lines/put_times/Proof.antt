@@ -1,13 +1,13 @@
--- `chart_text::chart::put_times` meets its contract.
+-- `chart_lines::lines::put_times` meets its contract.
 use native.Mathlib.Omega.{arith}
 use mathlib.Core.Path.{_∙_}
-use Rattle.chart_text.specs.Chart.{timesText}
+use Rattle.chart_lines.specs.Lines.{timesText}
 use Rattle.text.proofs.Pieces.{wrote-then, decimal-short}
 use borrow.Author.Needs.{needs}
-use Rattle.chart_text.proofs.chart.put_times.Statement.{statement}
-use Rattle.chart_text.proofs.chart.put_times.Tie as tie
-use Rattle.chart_text.proofs.chart.put_times.Reads as reads
-use Rattle.chart_text.proofs.chart.put_times.Lts as lts
+use Rattle.chart_lines.proofs.lines.put_times.Statement.{statement}
+use Rattle.chart_lines.proofs.lines.put_times.Tie as tie
+use Rattle.chart_lines.proofs.lines.put_times.Reads as reads
+use Rattle.chart_lines.proofs.lines.put_times.Lts as lts
 use Rattle.text.proofs.put_byte.Reads as put-byte-reads
 use Rattle.text.proofs.put_decimal.Reads as put-decimal-reads
 use Rattle.text.proofs.put_text.Reads as put-text-reads

@@ -1,12 +1,12 @@
--- `chart_text::chart::draw_refusal` meets its contract.
+-- `chart_lines::lines::draw_refusal` meets its contract.
 use native.Mathlib.Omega.{arith}
-use Rattle.chart_text.specs.Chart.{refusalText}
+use Rattle.chart_lines.specs.Lines.{refusalText}
 use Rattle.text.proofs.Pieces.{wrote-then, decimal-short}
 use borrow.Author.Needs.{needs}
-use Rattle.chart_text.proofs.chart.draw_refusal.Statement.{statement}
-use Rattle.chart_text.proofs.chart.draw_refusal.Tie as tie
-use Rattle.chart_text.proofs.chart.draw_refusal.Reads as reads
-use Rattle.chart_text.proofs.chart.draw_refusal.Lts as lts
+use Rattle.chart_lines.proofs.lines.draw_refusal.Statement.{statement}
+use Rattle.chart_lines.proofs.lines.draw_refusal.Tie as tie
+use Rattle.chart_lines.proofs.lines.draw_refusal.Reads as reads
+use Rattle.chart_lines.proofs.lines.draw_refusal.Lts as lts
 use Rattle.text.proofs.put_byte.Reads as put-byte-reads
 use Rattle.text.proofs.put_decimal.Reads as put-decimal-reads
 use Rattle.text.proofs.put_text.Reads as put-text-reads

@@ -1,11 +1,11 @@
--- `chart_text::rows::put_slot` meets its contract: a space, then index:count or a dash.
+-- `chart_lines::lines::put_slot` meets its contract: a space, then index:count or a dash.
 use native.Mathlib.Omega.{arith}
 use mathlib.Core.Path.{sym, _∙_}
 use borrow.Author.Needs.{needs}
 use Rattle.text.proofs.Pieces.{wrote-then, as-text, decimal-short}
-use Rattle.chart_text.proofs.Lines.{slot-filled, slot-empty}
-use Rattle.chart_text.proofs.rows.put_slot.Statement.{statement}
-use Rattle.chart_text.proofs.rows.put_slot.Tie as tie
+use Rattle.chart_lines.proofs.Lengths.{slot-filled, slot-empty}
+use Rattle.chart_lines.proofs.lines.put_slot.Statement.{statement}
+use Rattle.chart_lines.proofs.lines.put_slot.Tie as tie
 
 put-byte-requires : tie.Need-put-byte-requires
 put-byte-requires c κs = search needs
