@@ -13,8 +13,8 @@ use Rattle.machine.proofs.Longer.{added-at-most}
 use Rattle.machine.proofs.Settlings.{settlings-enclosed}
 use Rattle.record.specs.Body.{records, traceOf, bodyOf, settledBody, bodyRefusal, settledRefusal}
 use Rattle.running.specs.Run.{ranFor, runAnswer}
 use Rattle.timing.specs.Answers.{finishAnswer, bestWorstAnswer}
-use Rattle.timing.specs.Claim.{Passes, Compared, Attained, Holds, rules, calls, SettlingsCovered, Demand3}
+use Rattle.claims.specs.Claim.{Passes, Compared, Attained, Holds, rules, calls, SettlingsCovered, Demand3}
 use Rattle.record.proofs.Encoding.{length-traceOf}
 use Rattle.record.proofs.SettledBody.{settlings-are-bodies, settled-body-bytes, settled-body-passes, settled-body-decoded, settled-body-settles}
 

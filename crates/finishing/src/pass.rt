@@ -10,7 +10,7 @@ use schedule::slide;
 use schedule::times_from;
 
 // The finishing time where every unknown flag becomes the flag `to`.
-pub(crate) fn finish_settled(body: &[u8], to: u32) -> u32
+pub fn finish_settled(body: &[u8], to: u32) -> u32
     requires { ⌜ bodyRefusal (now body) ≡ 0 ⌝ }
     ensures { λ r. ⌜ r ≡ finish (settle (flagOf to) (traceOf (now (body .entry)))) ⌝ }
 {

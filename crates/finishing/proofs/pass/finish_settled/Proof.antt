@@ -11,8 +11,8 @@ use Rattle.record.proofs.Accepted.{few-records}
 use Rattle.schedule.specs.Code.{windowOf}
 use Rattle.schedule.proofs.Accepted.{length-settled, turn-fits, turn-room, turn-slides}
 use Rattle.schedule.proofs.Pass.{pass-starts, pass-ends}
-use Rattle.timing.proofs.pass.finish_settled.Statement.{statement}
-use Rattle.timing.proofs.pass.finish_settled.Tie as tie
+use Rattle.finishing.proofs.pass.finish_settled.Statement.{statement}
+use Rattle.finishing.proofs.pass.finish_settled.Tie as tie
 
 abbrev Inv-loop : tie.InvT-loop
 Inv-loop body to records w₀ k₀ w k = (k ≤ records) × (windowOf w ≡ windowBefore (settle (flagOf to) (traceOf body)) k)

@@ -21,8 +21,8 @@ use Rattle.record.specs.Body.{breaksAt, unknownAt, firsts, traceOf, recordOf, b
 use Rattle.record.specs.Cases.{known, refusalOf}
 use Rattle.record.proofs.RoundTrip.{trace-again}
 use Rattle.running.specs.Run.{ranFor, runAnswer}
 use Rattle.timing.specs.Answers.{finishAnswer, bestWorstAnswer, marginAnswer}
-use Rattle.timing.specs.Cases.{finishOf, bestWorstOf, runOf, marginOf, CasesAnswered, ChartAnswered}
+use Rattle.claims.specs.Cases.{finishOf, bestWorstOf, runOf, marginOf, CasesAnswered, ChartAnswered}
 
 -- all have left by a limit when the cycles run come to the finishing time
 left-by : (trace : Trace) (limit time : ℕ) → finish trace ≡ time → allLeft trace (after trace (min limit time)) ≡ leb time limit
