@@ -5,9 +5,9 @@ ghost use Rattle.record.specs.Rules.{flagOf};
 ghost use Rattle.record.specs.Body.{traceOf, bodyRefusal};
 use record::layout::RECORD_SIZE;
 use schedule::no_window;
-use schedule::settled_at;
 use schedule::slide;
 use schedule::times_from;
+use settling::settled_at;
 
 // The finishing time where every unknown flag becomes the flag `to`.
 pub fn finish_settled(body: &[u8], to: u32) -> u32

@@ -13,7 +13,7 @@ use Rattle.machine.proofs.Window.{Times, timesFrom, enterID, enterEX, enterMEM,
 use Rattle.machine.proofs.WindowPlaces.{window-place}
 use Rattle.record.specs.Body.{records, traceOf, bodyRefusal}
 use Rattle.record.proofs.Accepted.{few-records}
-use Rattle.schedule.specs.Code.{numbered}
+use Rattle.places.specs.Code.{numbered}
 use Rattle.schedule.proofs.Accepted.{length-settled}
 use Rattle.running.specs.Placing.{stateWith, stateSeated, slotSeated, Seated, Rising, Passed}
 use Rattle.running.proofs.RunState.{state-starts, state-grows}

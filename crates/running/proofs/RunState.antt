@@ -9,7 +9,7 @@ use Rattle.machine.specs.Instruction.{Trace}
 use Rattle.machine.specs.Rules.{Stage, pre, IF, ID, EX, MEM, ST, WB, post, Places, same}
 use Rattle.machine.specs.State.{start, fetchedBelow, occupantBelow, stateOf}
 use Rattle.machine.specs.declared.State.{State}
-use Rattle.schedule.specs.Code.{numbered}
+use Rattle.places.specs.Code.{numbered}
 use Rattle.running.specs.Placing.{fetchedWith, slotWith, stateWith, stateBelow}
 
 -- one more instruction at its stage: by computation in each of the eight cases

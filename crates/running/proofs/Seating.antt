@@ -13,9 +13,9 @@ use Rattle.machine.specs.Instruction.{Instruction}
 use Rattle.machine.specs.Rules.{Stage, pre, IF, ID, EX, MEM, ST, WB, post, Place, isStore, entry}
 use Rattle.machine.proofs.Stages.{level}
 use Rattle.machine.proofs.Window.{Times, lastCount, placeAt}
-use Rattle.schedule.specs.Code.{numbered}
-use Rattle.schedule.specs.declared.places.Place as Code
-use Rattle.schedule.proofs.Cases.{in-post}
+use Rattle.places.specs.Code.{numbered}
+use Rattle.places.specs.declared.places.Place as Code
+use Rattle.places.proofs.Cases.{in-post}
 use Rattle.running.specs.Placing.{fetchedWith, slotWith, stateWith, slotOf, slotSeated, stateSeated, Seated, Rising}
 
 -- a list written out element by element

@@ -14,7 +14,7 @@ use Rattle.machine.proofs.Finish.{stays-left}
 use Rattle.machine.proofs.Numbers.{Tri, less, equal, more, tri}
 use Rattle.machine.proofs.RunStates.{stateAfter, run-orderly, run-places}
 use Rattle.machine.proofs.Spots.{place-waiting, not-waiting}
-use Rattle.schedule.specs.Code.{numbered}
+use Rattle.places.specs.Code.{numbered}
 use Rattle.running.specs.Placing.{fetchedWith, slotWith, stateWith, stateBelow}
 use Rattle.running.proofs.RunState.{state-grows, state-ends}
 

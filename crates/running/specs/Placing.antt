@@ -12,7 +12,7 @@ use Rattle.machine.specs.declared.Slot.{Slot}
 use Rattle.machine.specs.declared.State.{State}
 use Rattle.machine.proofs.Stages.{level}
 use Rattle.machine.proofs.Window.{Times, windowBefore}
-use Rattle.schedule.specs.declared.places.Place.{Place}
+use Rattle.places.specs.declared.places.Place.{Place}
 use Rattle.running.specs.declared.running.Fetched.{Fetched}
 
 -- a state with instruction k added at its place

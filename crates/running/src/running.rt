@@ -17,9 +17,9 @@ use machine::State;
 use record::layout::RECORD_SIZE;
 use record::settled_refusal;
 use schedule::no_window;
-use schedule::settled_at;
 use schedule::slide;
 use schedule::times_from;
+use settling::settled_at;
 
 // `cycles` is how many were run, the smaller of limit and finishing time, and `left` whether all
 // have left by then.

@@ -7,7 +7,8 @@ ghost use Prim.Native.Nat.{_+_, _<_, _≤_, _^_};
 ghost use lib.ListN.{length};
 ghost use Rattle.machine.proofs.Window.{placeAt};
 ghost use Rattle.record.specs.Rules.{instructionOf};
-ghost use Rattle.schedule.specs.Code.{timesOf, numbered};
+ghost use Rattle.schedule.specs.Code.{timesOf};
+ghost use Rattle.places.specs.Code.{numbered};
 ghost use Rattle.running.specs.Placing.{Rising, stateWith, slotSeated, stateSeated, Seated};
 use machine::Slot;
 use machine::State;
@@ -17,9 +18,9 @@ use machine::stage::IF;
 use machine::stage::MEM;
 use machine::stage::ST;
 use machine::stage::WB;
+use places::place_at;
 use record::Fields;
 use schedule::Times;
-use schedule::place_at;
 
 pub(crate) const SEATS: usize = 13;
 

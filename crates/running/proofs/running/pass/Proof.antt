@@ -9,7 +9,7 @@ use Rattle.machine.proofs.Window.{windowBefore}
 use Rattle.record.specs.Rules.{flagOf}
 use Rattle.record.specs.Body.{Bytes, traceOf}
 use Rattle.record.proofs.Accepted.{few-records}
-use Rattle.schedule.specs.Code.{windowOf}
+use Rattle.entering.specs.Code.{windowOf}
 use Rattle.schedule.proofs.Accepted.{length-settled, turn-fits, turn-room, turn-times, turn-slides}
 use Rattle.schedule.proofs.Pass.{pass-starts}
 use Rattle.running.specs.Placing.{Passed}
