@@ -10,7 +10,8 @@ use Rattle.machine.specs.Rules.{Stage, pre, IF, ID, EX, MEM, ST, WB, post, Plac
 use Rattle.machine.specs.State.{start, fetchedBelow, occupantBelow, stateOf}
 use Rattle.machine.specs.declared.State.{State}
 use Rattle.places.specs.Code.{numbered}
-use Rattle.running.specs.Placing.{fetchedWith, slotWith, stateWith, stateBelow}
+use Rattle.seats.specs.Seating.{fetchedWith, slotWith, stateWith}
+use Rattle.under_way.specs.Passing.{stateBelow}
 
 -- one more instruction at its stage: by computation in each of the eight cases
 grown : (k count : ℕ) (s : State) (stage : Stage) →

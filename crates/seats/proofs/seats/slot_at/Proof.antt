@@ -3,10 +3,10 @@ use Prim.Native.Nat.{ℕ, _+_}
 use mathlib.Core.Path.{sym, ap}
 use lib.ListN.{getD}
 use borrow.Author.Needs.{needs}
-use Rattle.running.specs.Placing.{slotOf, slotSeated}
-use Rattle.running.proofs.Seating.{slot-filled}
-use Rattle.running.proofs.seats.slot_at.Statement.{statement}
-use Rattle.running.proofs.seats.slot_at.Tie as tie
+use Rattle.seats.specs.Seating.{slotOf, slotSeated}
+use Rattle.seats.proofs.Seating.{slot-filled}
+use Rattle.seats.proofs.seats.slot_at.Statement.{statement}
+use Rattle.seats.proofs.seats.slot_at.Tie as tie
 
 mul-seat : tie.Need-mul-seat
 mul-seat c = search needs

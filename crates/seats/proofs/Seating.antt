@@ -16,7 +16,7 @@ use Rattle.machine.proofs.Window.{Times, lastCount, placeAt}
 use Rattle.places.specs.Code.{numbered}
 use Rattle.places.specs.declared.places.Place as Code
 use Rattle.places.proofs.Cases.{in-post}
-use Rattle.running.specs.Placing.{fetchedWith, slotWith, stateWith, slotOf, slotSeated, stateSeated, Seated, Rising}
+use Rattle.seats.specs.Seating.{fetchedWith, slotWith, stateWith, slotOf, slotSeated, stateSeated, Seated, Rising}
 
 -- a list written out element by element
 abbrev spelled : ℕ → List ℕ → List ℕ

@@ -1,8 +1,8 @@
 -- `seated` meets its contract: field by field what its callees promise.
 use borrow.Author.Needs.{needs}
-use Rattle.running.specs.Placing.{stateSeated}
-use Rattle.running.proofs.seats.seated.Statement.{statement}
-use Rattle.running.proofs.seats.seated.Tie as tie
+use Rattle.seats.specs.Seating.{stateSeated}
+use Rattle.seats.proofs.seats.seated.Statement.{statement}
+use Rattle.seats.proofs.seats.seated.Tie as tie
 
 slot-at-requires : tie.Need-slot-at-requires
 slot-at-requires c κs = search needs

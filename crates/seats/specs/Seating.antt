@@ -1,19 +1,17 @@
--- What Run's pass keeps after each instruction, for the pass's own functions; no public contract cites it.
-use Prim.Native.Nat.{ℕ, zero, suc, _+_, _≤_, _<_}
+-- The numbers in which Run's pass keeps a state, for the pass's own functions; no public contract cites them.
+use Prim.Native.Nat.{ℕ, zero, suc, _+_, _≤_}
 use mathlib.Core.Bool.{true, cond}
 use mathlib.Core.List.{List}
 use mathlib.Core.Path.{_≡_}
 use lib.Dec.{eqb}
 use lib.ListN.{length, getD}
-use Rattle.machine.specs.Instruction.{Trace}
-use Rattle.machine.specs.Rules.{Places, pre, IF, ID, EX, MEM, ST, WB, after}
-use Rattle.machine.specs.State.{emptySlot, fetchedBelow, occupantBelow}
+use Rattle.machine.specs.Rules.{pre, IF, ID, EX, MEM, ST, WB}
+use Rattle.machine.specs.State.{emptySlot}
 use Rattle.machine.specs.declared.Slot.{Slot}
 use Rattle.machine.specs.declared.State.{State}
 use Rattle.machine.proofs.Stages.{level}
-use Rattle.machine.proofs.Window.{Times, windowBefore}
+use Rattle.machine.proofs.Window.{Times}
 use Rattle.places.specs.declared.places.Place.{Place}
-use Rattle.running.specs.declared.running.Fetched.{Fetched}
 
 -- a state with instruction k added at its place
 unfoldable pub fetchedWith : Place → ℕ → ℕ
@@ -32,19 +30,6 @@ stateWith p k s =
       MEM = slotWith p k (level MEM) (s .MEM);
       ST = slotWith p k (level ST) (s .ST);
       WB = slotWith p k (level WB) (s .WB);
-    }
-
--- the state that the places of the first k instructions give
-unfoldable pub stateBelow : Places → ℕ → State
-stateBelow places k =
-    record {
-      fetched = fetchedBelow places k;
-      IF = occupantBelow places IF k;
-      ID = occupantBelow places ID k;
-      EX = occupantBelow places EX k;
-      MEM = occupantBelow places MEM k;
-      ST = occupantBelow places ST k;
-      WB = occupantBelow places WB k;
     }
 
 -- a slot as two numbers: one more than the index, or 0 for an empty slot, and the count
@@ -73,17 +58,6 @@ stateSeated seats fetched =
 pub record Seated (seats : List ℕ) (fetched : ℕ) (s : State) : Type 0 where
   pub long : length seats ≡ 13
   pub state : stateSeated seats fetched ≡ s
-
--- the pass over a trace has come to instruction k: all before it are fetched by the limit, and those under way are seated
-abbrev pub Passed : Trace → ℕ → ℕ → List ℕ → Type 0
-Passed trace limit k seats = Seated seats k (stateBelow (after trace limit) k)
-
--- the pass has ended: there is no further instruction, or the next is not fetched by the limit
-pub record Stopped (trace : Trace) (limit : ℕ) (r : Fetched) (seats : List ℕ) : Type 0 where
-  pub passed : Passed trace limit (r .count) seats
-  pub finish : r .finish ≡ windowBefore trace (r .count) .finish
-  pub inside : r .count ≤ length trace
-  pub waits : r .count < length trace → after trace limit (r .count) .stage ≡ pre
 
 -- no time is later than that of leaving
 pub record Rising (e : Times) : Type 0 where

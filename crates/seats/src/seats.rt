@@ -9,7 +9,7 @@ ghost use Rattle.machine.proofs.Window.{placeAt};
 ghost use Rattle.record.specs.Rules.{instructionOf};
 ghost use Rattle.schedule.specs.Code.{timesOf};
 ghost use Rattle.places.specs.Code.{numbered};
-ghost use Rattle.running.specs.Placing.{Rising, stateWith, slotSeated, stateSeated, Seated};
+ghost use Rattle.seats.specs.Seating.{Rising, stateWith, slotSeated, stateSeated, Seated};
 use machine::Slot;
 use machine::State;
 use machine::stage::EX;
@@ -22,14 +22,14 @@ use places::place_at;
 use record::Fields;
 use schedule::Times;
 
-pub(crate) const SEATS: usize = 13;
+pub const SEATS: usize = 13;
 
 // How far after a seat its count is.
 const COUNTS: usize = 6;
 
 // Seats instruction k, which is fetched by the limit, unless it has left by then. Most have, which
 // the time of leaving tells without computing a place.
-pub(crate) fn seat(seats: &mut [u32; SEATS], f: Fields, e: Times, limit: u32, k: u32)
+pub fn seat(seats: &mut [u32; SEATS], f: Fields, e: Times, limit: u32, k: u32)
     requires { ⌜ (length (now seats) ≡ 13) × Rising (timesOf e) × (e .IF ≤ limit) × (k + 1 < 2 ^ 32) ⌝ }
     ensures { λ _. ⌜ Seated (now (seats .exit)) (k + 1) (stateWith (numbered (placeAt (instructionOf f) (timesOf e) limit)) k (stateSeated (now (seats .entry)) k)) ⌝ }
 {
@@ -61,7 +61,7 @@ fn slot_at(seats: &[u32; SEATS], level: u32) -> Slot
     }
 }
 
-pub(crate) fn seated(seats: &[u32; SEATS], fetched: u32) -> State
+pub fn seated(seats: &[u32; SEATS], fetched: u32) -> State
     ensures { λ r. ⌜ r ≡ stateSeated (now (seats .entry)) fetched ⌝ }
 {
     State {

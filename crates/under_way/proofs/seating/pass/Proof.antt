@@ -12,10 +12,10 @@ use Rattle.record.proofs.Accepted.{few-records}
 use Rattle.entering.specs.Code.{windowOf}
 use Rattle.schedule.proofs.Accepted.{length-settled, turn-fits, turn-room, turn-times, turn-slides}
 use Rattle.schedule.proofs.Pass.{pass-starts}
-use Rattle.running.specs.Placing.{Passed}
-use Rattle.running.proofs.RunPass.{begins, waits, may-seat, passes}
-use Rattle.running.proofs.running.pass.Statement.{statement}
-use Rattle.running.proofs.running.pass.Tie as tie
+use Rattle.under_way.specs.Passing.{Passed}
+use Rattle.under_way.proofs.RunPass.{begins, waits, may-seat, passes}
+use Rattle.under_way.proofs.seating.pass.Statement.{statement}
+use Rattle.under_way.proofs.seating.pass.Tie as tie
 
 abbrev Inv-loop : tie.InvT-loop
 Inv-loop body to limit seats₀ records w₀ k₀ seats w k =

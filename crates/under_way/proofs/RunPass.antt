@@ -15,8 +15,9 @@ use Rattle.record.specs.Body.{records, traceOf, bodyRefusal}
 use Rattle.record.proofs.Accepted.{few-records}
 use Rattle.places.specs.Code.{numbered}
 use Rattle.schedule.proofs.Accepted.{length-settled}
-use Rattle.running.specs.Placing.{stateWith, stateSeated, slotSeated, Seated, Rising, Passed}
-use Rattle.running.proofs.RunState.{state-starts, state-grows}
+use Rattle.seats.specs.Seating.{stateWith, stateSeated, slotSeated, Seated, Rising}
+use Rattle.under_way.specs.Passing.{Passed}
+use Rattle.under_way.proofs.RunState.{state-starts, state-grows}
 
 pub begins : (trace : Trace) (limit : ℕ) {seats : List ℕ} → seats ≡ replicate 13 0 → Passed trace limit 0 seats
 unfolding stateSeated slotSeated

@@ -1,9 +1,9 @@
 -- `seat` meets its contract: by its time of leaving an instruction that is fetched is in post or in a slot, and so it is in the numbers.
 use native.Mathlib.Omega.{arith}
 use borrow.Author.Needs.{needs}
-use Rattle.running.proofs.Seating.{within-seats, seat-slot, seat-post}
-use Rattle.running.proofs.seats.seat.Statement.{statement}
-use Rattle.running.proofs.seats.seat.Tie as tie
+use Rattle.seats.proofs.Seating.{within-seats, seat-slot, seat-post}
+use Rattle.seats.proofs.seats.seat.Statement.{statement}
+use Rattle.seats.proofs.seats.seat.Tie as tie
 
 place-at-requires : tie.Need-place-at-requires
 place-at-requires c κs = search needs
