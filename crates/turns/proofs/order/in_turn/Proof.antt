@@ -2,8 +2,8 @@
 use mathlib.Core.Path.{refl}
 use borrow.Author.Needs.{needs}
 use Rattle.decode.proofs.Joined.{either-of}
-use Rattle.standing.proofs.order.in_turn.Statement.{statement}
-use Rattle.standing.proofs.order.in_turn.Tie as tie
+use Rattle.turns.proofs.order.in_turn.Statement.{statement}
+use Rattle.turns.proofs.order.in_turn.Tie as tie
 
 cast-result : tie.Need-cast-result
 cast-result c = search needs

@@ -7,8 +7,8 @@ use borrow.Author.Needs.{needs}
 use Rattle.machine.specs.Rules.{isStore}
 use Rattle.machine.specs.Instruction.{Instruction}
 use Rattle.decode.proofs.Joined.{both-of, either, either-of, or-under}
-use Rattle.standing.proofs.order.stores_apart.Statement.{statement}
-use Rattle.standing.proofs.order.stores_apart.Tie as tie
+use Rattle.orderly.proofs.order.stores_apart.Statement.{statement}
+use Rattle.orderly.proofs.order.stores_apart.Tie as tie
 
 cast-below : tie.Need-cast-below
 cast-below c = search needs

@@ -2,10 +2,10 @@
 use Prim.Native.Nat.{ℕ}
 use mathlib.Core.Path.{sym, ap, _∙_}
 use Rattle.machine.specs.State.{orderly}
-use Rattle.standing.specs.Orderly.{inOrder}
+use Rattle.turns.specs.Turns.{inOrder}
 use Rattle.decode.proofs.Joined.{both-of, nine}
-use Rattle.standing.proofs.order.orderly.Statement.{statement}
-use Rattle.standing.proofs.order.orderly.Tie as tie
+use Rattle.orderly.proofs.order.orderly.Statement.{statement}
+use Rattle.orderly.proofs.order.orderly.Tie as tie
 
 in-order-requires : tie.Need-in-order-requires
 in-order-requires c κs = tt

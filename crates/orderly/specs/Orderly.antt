@@ -1,5 +1,4 @@
--- The test of orderly states in three parts, as the code makes it: the order of the instructions in IF to MEM and WB, which of ST and WB hold a
--- store, and the counts.
+-- The test of orderly states beyond the order of the instructions, as the code makes it: which of ST and WB hold a store, and the counts.
 use Prim.Native.Nat.{ℕ, _+_}
 use mathlib.Core.Bool.{Bool, not, cond}
 use lib.Dec.{ltb, leb, eqb}
@@ -10,22 +9,9 @@ use Rattle.machine.specs.State.{slot, younger}
 use Rattle.machine.specs.declared.Slot.{Slot}
 use Rattle.machine.specs.declared.State.{State}
 
--- a filled slot holds the youngest fetched instruction that none of the `younger` filled slots before it holds
-abbrev pub turnOf : Slot → ℕ → ℕ → Bool
-turnOf held younger fetched = not (held .filled) or eqb (held .index + younger + 1) fetched
-
 -- no count above the entry count; an empty slot has index 0 and count 0
 abbrev pub countOf : Slot → ℕ → Bool
 countOf held most = cond (held .filled) (leb (held .count) most) (eqb (held .index) 0 and eqb (held .count) 0)
-
-abbrev pub inOrder : ℕ → State → Bool
-inOrder n s =
-    leb (s .fetched) n
-    and turnOf (s .IF) (younger s IF) (s .fetched)
-    and turnOf (s .ID) (younger s ID) (s .fetched)
-    and turnOf (s .EX) (younger s EX) (s .fetched)
-    and turnOf (s .MEM) (younger s MEM) (s .fetched)
-    and turnOf (s .WB) (younger s WB) (s .fetched)
 
 abbrev pub storesApart : Trace → State → Bool
 storesApart trace s =

@@ -1,8 +1,8 @@
 -- `counted` meets its contract: a filled slot, and an empty one.
 use mathlib.Core.Path.{refl}
 use Rattle.decode.proofs.Joined.{both-of}
-use Rattle.standing.proofs.order.counted.Statement.{statement}
-use Rattle.standing.proofs.order.counted.Tie as tie
+use Rattle.orderly.proofs.order.counted.Statement.{statement}
+use Rattle.orderly.proofs.order.counted.Tie as tie
 
 returns : tie.Need-returns
 returns c = rw (c .before .if1 .taken)

@@ -6,11 +6,11 @@ use lib.Dec.{leb}
 use Rattle.machine.specs.declared.Slot.{Slot}
 use Rattle.machine.specs.Rules.{IF, EX, MEM, ST, entry}
 use Rattle.record.specs.Rules.{instructionOf}
-use Rattle.standing.specs.Orderly.{countOf}
+use Rattle.orderly.specs.Orderly.{countOf}
 use Rattle.decode.proofs.Entries.{entry-of}
 use Rattle.decode.proofs.Joined.{both-of, cond-under}
-use Rattle.standing.proofs.order.all_counted.Statement.{statement}
-use Rattle.standing.proofs.order.all_counted.Tie as tie
+use Rattle.orderly.proofs.order.all_counted.Statement.{statement}
+use Rattle.orderly.proofs.order.all_counted.Tie as tie
 
 -- for an empty slot the entry count does not matter
 count-under : (held : Slot) {m n : ℕ} → (held .filled ≡ true → m ≡ n) → countOf held m ≡ countOf held n

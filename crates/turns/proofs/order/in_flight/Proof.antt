@@ -2,8 +2,8 @@
 use native.Mathlib.Omega.{arith}
 use borrow.Author.Needs.{needs}
 use Rattle.machine.specs.State.{younger}
-use Rattle.standing.proofs.order.in_flight.Statement.{statement}
-use Rattle.standing.proofs.order.in_flight.Tie as tie
+use Rattle.turns.proofs.order.in_flight.Statement.{statement}
+use Rattle.turns.proofs.order.in_flight.Tie as tie
 
 filled-requires : tie.Need-filled-requires
 filled-requires c κs = tt

@@ -3,10 +3,10 @@ use Prim.Native.Nat.{ℕ, _+_}
 use mathlib.Core.Path.{refl, ap, ap₂, _∙_}
 use borrow.Author.Needs.{needs}
 use Rattle.machine.specs.State.{younger}
-use Rattle.standing.specs.Orderly.{turnOf}
+use Rattle.turns.specs.Turns.{turnOf}
 use Rattle.decode.proofs.Joined.{both-of}
-use Rattle.standing.proofs.order.in_order.Statement.{statement}
-use Rattle.standing.proofs.order.in_order.Tie as tie
+use Rattle.turns.proofs.order.in_order.Statement.{statement}
+use Rattle.turns.proofs.order.in_order.Tie as tie
 
 filled-requires : tie.Need-filled-requires
 filled-requires c κs = tt
