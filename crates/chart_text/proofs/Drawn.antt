@@ -11,9 +11,11 @@ use Rattle.machine.proofs.Connectives.{Value, passed, failed, value}
 use Rattle.record.specs.Body.{traceOf}
 use Rattle.job.specs.Open.{openRefusal, openBody}
 use Rattle.text.specs.Text.{put, Wrote}
-use Rattle.chart_text.specs.Chart.{chartOf, refusalText, chartText, longest, chartLength, chartOutput}
+use Rattle.chart_text.specs.Chart.{chartOf, chartText, longest, chartLength, chartOutput}
 use Rattle.text.proofs.Pieces.{length-put}
-use Rattle.chart_text.proofs.Lines.{chart-short, refusal-short}
+use Rattle.chart_lines.specs.Lines.{refusalText}
+use Rattle.chart_lines.proofs.Lengths.{refusal-short}
+use Rattle.chart_text.proofs.Length.{chart-short}
 
 module _ (file out : List ℕ) where
   pub short-output : length out < longest → (0 ≡ chartLength file (length out)) × (out ≡ chartOutput file out)
@@ -43,7 +45,9 @@ chart-given file e = rw e
 text-short : (file : List ℕ) → Value (eqb (openRefusal file 0) 0) → length (chartText file) ≤ longest
 unfolding chartText
 text-short file (passed e) = rw e (chart-short (traceOf (openBody file 0)))
-text-short file (failed e) = rw e (refusal-short (openRefusal file 0))
+text-short file (failed e) =
+    let short = refusal-short (openRefusal file 0) in
+    rw e (omega arith)
 
 inside : (file out : List ℕ) → Value (leb longest (length out)) → chartLength file (length out) ≤ length (chartOutput file out)
 unfolding chartLength chartOutput

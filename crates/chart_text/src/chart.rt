@@ -1,22 +1,20 @@
 // The whole chart, or the line that gives a refusal.
 ghost use mathlib.Core.Path.{_≡_};
-ghost use Prim.Native.Nat.{_+_, _≤_, min};
+ghost use Prim.Native.Nat.{_≤_, min};
 ghost use lib.ListN.{length};
 ghost use Rattle.record.specs.Body.{traceOf, bodyRefusal};
 ghost use Rattle.text.specs.Text.{Wrote};
 ghost use Rattle.chart_text.specs.Chart.{
   longest,
-  refusalText,
   chartOf,
   chartLength,
   chartOutput,
 };
-ghost use Rattle.chart_text.specs.Chart.{timesText};
-use crate::rows::put_rows;
+use chart_lines::draw_refusal;
+use chart_lines::put_times;
+use chart_rows::put_rows;
 use job::cut;
 use job::locate;
-use text::put_byte;
-use text::put_decimal;
 use text::put_text;
 use timing::best_worst;
 
@@ -29,26 +27,6 @@ fn smaller(a: u32, b: u32) -> u32
     ensures { λ r. ⌜ r ≡ min a b ⌝ }
 {
     if a < b { a } else { b }
-}
-
-fn put_times(out: &mut [u8], at: usize, worst: u32, best: u32) -> usize
-    requires { ⌜ at + 33 ≤ length (now out) ⌝ }
-    ensures { λ r. ⌜ Wrote at (timesText worst best) (now (out .entry)) (now (out .exit)) r ⌝ }
-{
-    let latest = put_text(out, at, b"worst ");
-    let between = put_decimal(out, latest, worst);
-    let earliest = put_text(out, between, b" best ");
-    let end = put_decimal(out, earliest, best);
-    put_byte(out, end, b'\n')
-}
-
-fn draw_refusal(out: &mut [u8], number: u32) -> usize
-    requires { ⌜ longest ≤ length (now out) ⌝ }
-    ensures { λ r. ⌜ Wrote 0 (refusalText number) (now (out .entry)) (now (out .exit)) r ⌝ }
-{
-    let at = put_text(out, 0, b"refused ");
-    let end = put_decimal(out, at, number);
-    put_byte(out, end, b'\n')
 }
 
 fn draw_body(body: &[u8], out: &mut [u8]) -> usize

@@ -1,6 +1,5 @@
 // The chart of a job file's first trace, as text in a lent output.
 pub mod chart;
-mod rows;
 
 pub use chart::CHART_BYTES;
 pub use chart::draw;

@@ -1,3 +1,2 @@
-pub mod Going
 pub mod Slots
 pub mod Starts

@@ -11,8 +11,9 @@ use Rattle.machine.specs.declared.State.{State}
 use Rattle.machine.proofs.Connectives.{Value, passed, failed, value, clash, and-l, and-r, and-failed-l, or-l, or-r, or-else, not-passes}
 use Rattle.machine.proofs.BySlots.{standing, goes, occupied, storeInMEM, nextIn, movesIn, movesAt, freeAt, moves-at, free-at, before, arrives, leaves, slotAfter, newSlot, stepBySlots}
 use Rattle.machine.proofs.Masks.{bits, maskOf, mask-bits, goes-post, occupied-post}
-use Rattle.cycle.specs.declared.moving.Bits.{Bits}
-use Rattle.cycle.specs.Bits.{bitsOf, opens, opensAfter, starts}
+use Rattle.moving.specs.declared.moving.Bits.{Bits}
+use Rattle.moving.specs.Bits.{bitsOf}
+use Rattle.starting.specs.Starts.{opens, opensAfter, starts}
 use Rattle.cycle.specs.Standstill.{stays, standstill}
 use Rattle.cycle.proofs.Slots.{state-is}
 

@@ -7,9 +7,9 @@ ghost use Rattle.pipeline.specs.Step.{stepAnswer};
 use crate::refusal::NOT_ORDERLY;
 use cycle::cycle;
 use machine::State;
+use orderly::orderly;
 use record::layout::RECORD_SIZE;
 use record::settled_refusal;
-use standing::orderly;
 use standing::read_stages;
 
 #[repr(C)]

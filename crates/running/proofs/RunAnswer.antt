@@ -18,10 +18,11 @@ use Rattle.machine.proofs.Window.{windowBefore}
 use Rattle.machine.proofs.WindowTimes.{window-finish}
 use Rattle.machine.proofs.RunStates.{stateAfter, run-stops-state}
 use Rattle.record.specs.Body.{Bytes, traceOf, settledRefusal}
-use Rattle.schedule.proofs.Settled.{settled-already}
+use Rattle.settling.proofs.Settled.{settled-already}
 use Rattle.running.specs.Run.{ranFor, runAnswer}
-use Rattle.running.specs.Placing.{stateBelow, stateSeated, Stopped}
-use Rattle.running.specs.declared.running.Fetched.{Fetched}
+use Rattle.seats.specs.Seating.{stateSeated}
+use Rattle.under_way.specs.Passing.{stateBelow, Stopped}
+use Rattle.under_way.specs.declared.seating.Fetched.{Fetched}
 use Rattle.running.specs.declared.running.Ran.{Ran}
 use Rattle.running.proofs.Stops.{ends-after-all, ends-unfetched, goes-on}
 

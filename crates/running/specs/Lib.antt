@@ -1,3 +1,2 @@
 pub mod Run
-pub mod Placing
 pub mod Claims

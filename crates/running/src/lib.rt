@@ -1,6 +1,5 @@
 // Run: the state at a limit of cycles, from one pass over the body.
 pub mod running;
-mod seats;
 
 pub use running::Ran;
 pub use running::run;

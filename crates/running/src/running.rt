@@ -1,25 +1,17 @@
-// Run: the state after a limit of cycles from the start. One pass over the body places instructions
-// at the limit from their times, and no cycle is simulated: the pass skips those that have left by
-// then, seats the few that are under way, and ends with the first that is not fetched by then.
+// Run: the state after a limit of cycles from the start, made of what one pass has seated.
 ghost use mathlib.Core.Path.{_≡_};
 ghost use Prim.Native.Nat.{min};
-ghost use lib.ListN.{replicate};
 ghost use Rattle.machine.specs.Time.{settle};
 ghost use Rattle.record.specs.Rules.{flagOf};
 ghost use Rattle.record.specs.Body.{traceOf, bodyRefusal};
 ghost use Rattle.running.specs.Run.{ranFor, runAnswer};
-ghost use Rattle.running.specs.Placing.{Stopped};
-use crate::seats::SEATS;
-use crate::seats::seat;
-use crate::seats::seated;
 use decode::HIT;
 use machine::State;
 use record::layout::RECORD_SIZE;
 use record::settled_refusal;
-use schedule::no_window;
-use schedule::settled_at;
-use schedule::slide;
-use schedule::times_from;
+use seats::SEATS;
+use seats::seated;
+use under_way::pass;
 
 // `cycles` is how many were run, the smaller of limit and finishing time, and `left` whether all
 // have left by then.
@@ -35,40 +27,6 @@ fn smaller(a: u32, b: u32) -> u32
     ensures { λ r. ⌜ r ≡ min a b ⌝ }
 {
     if a < b { a } else { b }
-}
-
-// How many instructions are fetched by a limit, and when all of these have left.
-struct Fetched {
-    count: u32,
-    finish: u32,
-}
-
-// The pass over an accepted body whose unknown flags become the flag `to`: it seats the instructions
-// that are under way at the limit, and ends with the first that is not fetched by then.
-fn pass(body: &[u8], to: u32, limit: u32, seats: &mut [u32; SEATS]) -> Fetched
-    requires { ⌜ (bodyRefusal (now body) ≡ 0) × (now seats ≡ replicate 13 0) ⌝ }
-    ensures { λ r. ⌜ Stopped (settle (flagOf to) (traceOf (now (body .entry)))) limit r (now (seats .exit)) ⌝ }
-{
-    let records = (body.len() / RECORD_SIZE) as u32;
-    let mut w = no_window();
-    let mut k = 0;
-    while k < records {
-        let f = settled_at(body, to, k);
-        let e = times_from(w, f);
-        if limit < e.IF {
-            return Fetched {
-                count: k,
-                finish: w.finish,
-            };
-        }
-        seat(seats, f, e, limit, k);
-        w = slide(w, f, e);
-        k += 1;
-    }
-    Fetched {
-        count: k,
-        finish: w.finish,
-    }
 }
 
 // The run of an accepted body whose unknown flags become the flag `to`. Where not all are fetched by

@@ -28,7 +28,7 @@ use Rattle.schedule.specs.Code.{maxTime, FinishWithin, Room}
 use Rattle.decode.specs.Access.{AccessLawful}
 use Rattle.decode.proofs.Numbers.{store-number}
 use Rattle.schedule.proofs.Pass.{pass-fits, pass-room, pass-times, pass-slides}
-use Rattle.schedule.proofs.Settled.{length-settle, instruction-settle, bound-settle}
+use Rattle.settling.proofs.Settled.{length-settle, instruction-settle, bound-settle}
 
 within-limited : (f : Fields) → Within f → Limited (instructionOf f)
 unfolding instructionOf

@@ -1,7 +1,4 @@
 pub mod Accepted
-pub mod Cases
-pub mod Numbers
+pub mod Calls
 pub mod Pass
 pub mod Room
-pub mod Settled
-pub mod Steps

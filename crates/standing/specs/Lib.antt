@@ -1,2 +1,1 @@
-pub mod Orderly
 pub mod Reads

@@ -11,7 +11,7 @@ use Rattle.record.specs.Refusal.{_then_}
 use Rattle.record.specs.Rules.{flagOf}
 use Rattle.record.specs.Body.{Bytes, traceOf, bodyRefusal, settledRefusal}
 use Rattle.record.proofs.Refusals.{then-none}
-use Rattle.schedule.proofs.Settled.{settled-already}
+use Rattle.settling.proofs.Settled.{settled-already}
 use Rattle.timing.specs.Answers.{finishAnswer, bestWorstAnswer, marginAnswer, alikeRefusal, alikeAnswer}
 use Rattle.timing.specs.declared.calls.Finished.{Finished}
 use Rattle.timing.specs.declared.calls.BestWorst.{BestWorst}

@@ -1,4 +1,2 @@
 pub mod Answered
-pub mod Cases
-pub mod Claim
 pub mod Difference

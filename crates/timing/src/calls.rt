@@ -7,9 +7,9 @@ ghost use Rattle.timing.specs.Answers.{
   marginAnswer,
   alikeAnswer,
 };
-use crate::pass::finish_settled;
 use decode::HIT;
 use decode::MISS;
+use finishing::finish_settled;
 use record::body_refusal;
 use record::settled_refusal;
 

@@ -1,7 +1,6 @@
 // Finishing times: Finish, Best and worst, Margin, Alike. Each call checks its input and then passes
-// over the body's records once for each time that it needs.
+// over the body's records once for each time that it needs (`finishing`).
 pub mod calls;
-mod pass;
 
 pub use calls::BestWorst;
 pub use calls::DeadlineMargin;

@@ -4,7 +4,8 @@ use mathlib.Core.List.{List}
 use mathlib.Core.Path.{sym, ap, _∙_}
 use Rattle.record.specs.Body.{traceOf, bodyRefusal}
 use Rattle.job.proofs.Part.{located, opened-accepted}
-use Rattle.chart_text.specs.Chart.{chartOf, refusalText}
+use Rattle.chart_lines.specs.Lines.{refusalText}
+use Rattle.chart_text.specs.Chart.{chartOf}
 use Rattle.chart_text.proofs.Drawn.{short-output, drawn, chart-refused, chart-given}
 use borrow.Author.Needs.{needs}
 use Rattle.chart_text.proofs.chart.draw.Statement.{statement}
@@ -12,7 +13,7 @@ use Rattle.chart_text.proofs.chart.draw.Tie as tie
 use Rattle.chart_text.proofs.chart.draw.Reads as reads
 use Rattle.chart_text.proofs.chart.draw.Lts as lts
 use Rattle.chart_text.proofs.chart.draw_body.Reads as draw-body-reads
-use Rattle.chart_text.proofs.chart.draw_refusal.Reads as draw-refusal-reads
+use Rattle.chart_lines.proofs.draw_refusal.Reads as draw-refusal-reads
 use Rattle.job.proofs.cut.Reads as cut-reads
 use Rattle.job.proofs.locate.Reads as locate-reads
 

@@ -8,17 +8,19 @@ use Rattle.machine.specs.Time.{settle, best, worst}
 use Rattle.record.specs.Body.{traceOf, bodyRefusal}
 use Rattle.timing.specs.Answers.{bestWorstAnswer}
 use Rattle.timing.specs.declared.calls.BestWorst.{BestWorst}
-use Rattle.chart_text.specs.Chart.{rowsText, timesText, chartOf}
+use Rattle.chart_lines.specs.Lines.{timesText}
+use Rattle.chart_rows.specs.Rows.{rowsText}
+use Rattle.chart_text.specs.Chart.{chartOf}
 use Rattle.text.proofs.Pieces.{wrote-then, as-text}
-use Rattle.chart_text.proofs.Lines.{rows-short}
+use Rattle.chart_rows.proofs.Length.{rows-short}
 use borrow.Author.Needs.{needs}
 use Rattle.chart_text.proofs.chart.draw_body.Statement.{statement}
 use Rattle.chart_text.proofs.chart.draw_body.Tie as tie
 use Rattle.chart_text.proofs.chart.draw_body.Reads as reads
 use Rattle.chart_text.proofs.chart.draw_body.Lts as lts
-use Rattle.chart_text.proofs.chart.put_times.Reads as put-times-reads
+use Rattle.chart_lines.proofs.put_times.Reads as put-times-reads
 use Rattle.chart_text.proofs.chart.smaller.Reads as smaller-reads
-use Rattle.chart_text.proofs.rows.put_rows.Reads as put-rows-reads
+use Rattle.chart_rows.proofs.put_rows.Reads as put-rows-reads
 use Rattle.text.proofs.put_text.Reads as put-text-reads
 use Rattle.timing.proofs.best_worst.Reads as best-worst-reads
 

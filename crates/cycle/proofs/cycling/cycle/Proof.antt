@@ -6,8 +6,9 @@ use Rattle.machine.proofs.Masks.{maskOf, goes-post}
 use Rattle.machine.proofs.BySlots.{storeInMEM}
 use Rattle.machine.specs.Rules.{isStore}
 use Rattle.machine.specs.Instruction.{Instruction}
-use Rattle.cycle.specs.declared.moving.Bits.{Bits}
-use Rattle.cycle.specs.Bits.{bitOf, starts}
+use Rattle.moving.specs.declared.moving.Bits.{Bits}
+use Rattle.moving.specs.Bits.{bitOf}
+use Rattle.starting.specs.Starts.{starts}
 use Rattle.cycle.proofs.Starts.{leaving-is, standstill-is, none-set}
 use Rattle.cycle.proofs.cycling.cycle.Statement.{statement}
 use Rattle.cycle.proofs.cycling.cycle.Tie as tie

@@ -2,7 +2,7 @@
 use mathlib.Core.Path.{refl, sym, ap}
 use lib.Dec.{ltb}
 use Rattle.machine.proofs.BySlots.{standing, occupied}
-use Rattle.cycle.proofs.Going.{bits-are}
+use Rattle.moving.proofs.Seven.{bits-are}
 use Rattle.cycle.proofs.cycling.full.Statement.{statement}
 use Rattle.cycle.proofs.cycling.full.Tie as tie
 

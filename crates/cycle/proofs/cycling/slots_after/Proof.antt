@@ -7,7 +7,7 @@ use Rattle.machine.proofs.Connectives.{and-true}
 use Rattle.machine.proofs.BySlots.{standing, before, takes, arrives}
 use Rattle.machine.specs.Rules.{IF, ID, EX, MEM, ST, WB, entry}
 use Rattle.record.specs.Rules.{instructionOf}
-use Rattle.cycle.specs.declared.moving.Bits.{Bits}
+use Rattle.moving.specs.declared.moving.Bits.{Bits}
 use Rattle.decode.proofs.Entries.{entry-of}
 use Rattle.cycle.proofs.Slots.{slot-is, state-is, leaves-filled}
 use Rattle.decode.proofs.Joined.{both-of}

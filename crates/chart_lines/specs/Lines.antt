@@ -1,0 +1,42 @@
+-- The lines of the chart program's text: document 01, "Charts worked by hand".
+use Prim.Native.Nat.{ℕ}
+use mathlib.Core.Bool.{cond}
+use mathlib.Core.List.{List, [], _∷_, _++_}
+use Rattle.machine.specs.declared.Slot.{Slot}
+use Rattle.machine.specs.declared.State.{State}
+use Rattle.text.specs.Text.{space, newline, decimal}
+
+abbrev dash : ℕ
+dash = 45
+
+abbrev colon : ℕ
+colon = 58
+
+-- "fields one space apart", "the slots as index:count or a dash": a slot with the space before it
+unfoldable pub slotText : Slot → List ℕ
+slotText s = space ∷ cond (s .filled) (decimal (s .index) ++ (colon ∷ decimal (s .count))) (dash ∷ [])
+
+-- "each row is the cycle, then the slots"
+unfoldable pub rowText : ℕ → State → List ℕ
+rowText cycle s =
+    decimal cycle
+    ++ slotText (s .IF)
+    ++ slotText (s .ID)
+    ++ slotText (s .EX)
+    ++ slotText (s .MEM)
+    ++ slotText (s .ST)
+    ++ slotText (s .WB)
+    ++ (newline ∷ [])
+
+-- `worst N best N`, "The last line has worst and best."
+unfoldable pub timesText : ℕ → ℕ → List ℕ
+timesText worst best =
+    (119 ∷ 111 ∷ 114 ∷ 115 ∷ 116 ∷ space ∷ [])
+    ++ decimal worst
+    ++ (space ∷ 98 ∷ 101 ∷ 115 ∷ 116 ∷ space ∷ [])
+    ++ decimal best
+    ++ (newline ∷ [])
+
+-- "A refusal prints only `refused` and its number."
+unfoldable pub refusalText : ℕ → List ℕ
+refusalText number = (114 ∷ 101 ∷ 102 ∷ 117 ∷ 115 ∷ 101 ∷ 100 ∷ space ∷ []) ++ decimal number ++ (newline ∷ [])

@@ -1,0 +1,111 @@
+-- The calls answer for A to L what document 01's times say: the times by computation, and from the times what Run answers for every limit.
+use Prim.Native.Nat.{ℕ, min}
+use mathlib.Core.Bool.{Bool, true, false, not}
+use mathlib.Core.List.{List, [], _∷_, _++_, map}
+use mathlib.Core.Path.{_≡_, refl, ap₂, _∙_}
+use native.Mathlib.Omega.{arith}
+use borrow.Author.Tests.{leb-true, le-leb, eqb-true}
+use lib.Dec.{leb, eqb}
+use Rattle.machine.specs.Test.{_and_, _or_, every, none}
+use Rattle.machine.specs.Instruction.{Trace}
+use Rattle.machine.specs.Rules.{next, further as furtherOn, shortOf, entry, noOlder, reads, missesData, readyIn, ready, budget, movesWithin, moves, cycle, allPre, after, allLeft}
+use Rattle.machine.specs.Time.{bound, leastFrom, finish, settle, best, worst}
+use Rattle.machine.specs.State.{fetchedBelow, occupantBelow, stateOf}
+use Rattle.machine.specs.Cases.{Case, cases, further, chartOfD}
+use Rattle.machine.proofs.Connectives.{Value, passed, failed, value, both-ways, and-l, and-r, implies}
+use Rattle.machine.proofs.Finish.{all-left-is}
+use Rattle.record.specs.Refusal.{_then_, _unless_}
+use Rattle.record.specs.Layout.{fieldsFrom}
+use Rattle.record.specs.Rules.{breaksRules, hasUnknown, kindOf, flagOf, instructionOf}
+use Rattle.record.specs.Body.{breaksAt, unknownAt, firsts, traceOf, recordOf, bodyOf, lengthRefusal, recordRefusal, unknownRefusal, bodyRefusal, settledRefusal}
+use Rattle.record.specs.Cases.{known, refusalOf}
+use Rattle.record.proofs.RoundTrip.{trace-again}
+use Rattle.running.specs.Run.{ranFor, runAnswer}
+use Rattle.timing.specs.Answers.{finishAnswer, bestWorstAnswer, marginAnswer}
+use Rattle.claims.specs.Cases.{finishOf, bestWorstOf, runOf, marginOf, CasesAnswered, ChartAnswered}
+
+-- all have left by a limit when the cycles run come to the finishing time
+left-by : (trace : Trace) (limit time : ℕ) → finish trace ≡ time → allLeft trace (after trace (min limit time)) ≡ leb time limit
+left-by trace limit time e =
+    all-left-is trace (min limit time)
+    ∙ rw e
+    (both-ways _ _
+    (λ t. let l = leb-true time (min limit time) t in le-leb time limit (omega arith))
+    (λ t. let l = leb-true time limit t in le-leb time (min limit time) (omega arith)))
+
+-- what Run and Margin answer for a case, by the refusals of its body and its times
+module _ (c : Case) where
+  run-known
+      : settledRefusal (bodyOf (c .trace)) ≡ refusalOf (c .trace) → known (c .trace) ≡ true → finish (c .trace) ≡ c .worst → (limit : ℕ) →
+      runAnswer (bodyOf (c .trace)) limit ≡ runOf c limit
+  unfolding runAnswer ranFor runOf refusalOf
+  run-known checked k e limit = rw (checked, k, trace-again (c .trace), e, left-by (c .trace) limit (c .worst) e)
+
+  run-unknown
+      : settledRefusal (bodyOf (c .trace)) ≡ refusalOf (c .trace) → known (c .trace) ≡ false → (limit : ℕ) →
+      runAnswer (bodyOf (c .trace)) limit ≡ runOf c limit
+  unfolding runAnswer runOf refusalOf
+  run-unknown checked k limit = rw (checked, k)
+
+  margin-of : bodyRefusal (bodyOf (c .trace)) ≡ 0 → worst (c .trace) ≡ c .worst → (deadline : ℕ) → marginAnswer (bodyOf (c .trace)) deadline ≡ marginOf c deadline
+  unfolding marginAnswer marginOf
+  margin-of accepted e deadline = rw (accepted, trace-again (c .trace), e)
+
+  -- the same from tests
+  runs : Bool
+  runs = eqb (settledRefusal (bodyOf (c .trace))) (refusalOf (c .trace)) and (not (known (c .trace)) or eqb (finish (c .trace)) (c .worst))
+
+  margins : Bool
+  margins = eqb (bodyRefusal (bodyOf (c .trace))) 0 and eqb (worst (c .trace)) (c .worst)
+
+  run-tested : runs ≡ true → (limit : ℕ) → runAnswer (bodyOf (c .trace)) limit ≡ runOf c limit
+  unfolding runs
+  run-tested e = by-flags (eqb-true _ _ (and-l _ _ e)) (and-r _ _ e) (value (known (c .trace)))
+    where
+      by-flags
+          : settledRefusal (bodyOf (c .trace)) ≡ refusalOf (c .trace) →
+          (not (known (c .trace)) or eqb (finish (c .trace)) (c .worst)) ≡ true →
+          Value (known (c .trace)) →
+          (limit : ℕ) →
+          runAnswer (bodyOf (c .trace)) limit ≡ runOf c limit
+      by-flags checked time (passed k) = run-known checked k (eqb-true _ _ (implies _ _ time k))
+      by-flags checked time (failed k) = run-unknown checked k
+
+  margin-tested : margins ≡ true → (deadline : ℕ) → marginAnswer (bodyOf (c .trace)) deadline ≡ marginOf c deadline
+  unfolding margins
+  margin-tested e = margin-of (eqb-true _ _ (and-l _ _ e)) (eqb-true _ _ (and-r _ _ e))
+
+-- what holds of every case that passes a test holds of a table whose cases pass
+all : (Case → Bool) → List Case → Bool
+all test [] = true
+all test (c ∷ cs) = test c and all test cs
+
+map-same
+    : {A : Type 0} (test : Case → Bool) (f g : Case → A) → ((c : Case) → test c ≡ true → f c ≡ g c) →
+    (table : List Case) → all test table ≡ true → map f table ≡ map g table
+unfolding all
+map-same test f g same [] e = refl
+map-same {A} test f g same (c ∷ cs) e =
+    ap₂ (λ (a : A) (rest : List A). a ∷ rest) (same c (and-l _ _ e)) (map-same test f g same cs (and-r _ _ e))
+
+cases-run : all runs (cases ++ further) ≡ true
+unfolding _and_ _or_ every none next furtherOn shortOf entry noOlder reads missesData readyIn ready budget movesWithin moves cycle allPre after allLeft bound leastFrom finish cases further _then_ _unless_ fieldsFrom breaksRules hasUnknown breaksAt unknownAt recordOf bodyOf lengthRefusal recordRefusal unknownRefusal bodyRefusal settledRefusal known refusalOf runs all
+cases-run = refl
+
+cases-margin : all margins (cases ++ further) ≡ true
+unfolding _and_ _or_ every none next furtherOn shortOf entry noOlder reads missesData readyIn ready budget movesWithin moves cycle allPre after allLeft bound leastFrom finish settle worst cases further _then_ _unless_ fieldsFrom breaksRules breaksAt recordOf bodyOf lengthRefusal recordRefusal bodyRefusal margins all
+cases-margin = refl
+
+pub cases-answered : CasesAnswered
+unfolding _and_ _or_ every none next furtherOn shortOf entry noOlder reads missesData readyIn ready budget movesWithin moves cycle allPre after allLeft bound leastFrom finish settle best worst cases further _then_ _unless_ fieldsFrom breaksRules hasUnknown kindOf flagOf instructionOf breaksAt unknownAt firsts traceOf recordOf bodyOf lengthRefusal recordRefusal unknownRefusal bodyRefusal settledRefusal known refusalOf finishAnswer bestWorstAnswer finishOf bestWorstOf
+cases-answered =
+    record {
+      finish = refl;
+      bestWorst = refl;
+      run = λ limit. map-same runs _ _ (λ c e. run-tested c e limit) (cases ++ further) cases-run;
+      margin = λ deadline. map-same margins _ _ (λ c e. margin-tested c e deadline) (cases ++ further) cases-margin;
+    }
+
+pub chart-answered : ChartAnswered
+unfolding _and_ _or_ every none next furtherOn shortOf entry noOlder reads missesData readyIn ready budget movesWithin moves cycle allPre after allLeft bound leastFrom finish fetchedBelow occupantBelow stateOf chartOfD _then_ _unless_ fieldsFrom breaksRules hasUnknown kindOf flagOf instructionOf breaksAt unknownAt firsts traceOf lengthRefusal recordRefusal unknownRefusal bodyRefusal settledRefusal ranFor runAnswer
+chart-answered = refl

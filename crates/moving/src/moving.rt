@@ -1,0 +1,112 @@
+// Who moves: "moves" and "will be free" over two masks, a bit for each level from pre 0 to WB 6.
+ghost use mathlib.Core.Path.{_≡_};
+ghost use mathlib.Core.Bool.{not, _||_};
+ghost use Prim.Native.Nat.{_<_, _≤_};
+ghost use Rattle.machine.proofs.Stages.{stageAt};
+ghost use Rattle.machine.proofs.BySlots.{movesAt, freeAt};
+ghost use Rattle.machine.proofs.Flow.{bit};
+ghost use Rattle.machine.proofs.Masks.{nextLevel, bitAt, bits, maskOf};
+ghost use Rattle.moving.specs.Bits.{bitsOf, bitOf};
+
+// A bit for each stage that an instruction can move out of.
+pub struct Bits {
+    pub pre: bool,
+    pub IF: bool,
+    pub ID: bool,
+    pub EX: bool,
+    pub MEM: bool,
+    pub ST: bool,
+    pub WB: bool,
+}
+
+fn digit(b: bool) -> u32
+    ensures { λ r. ⌜ (r ≡ bit b) × (r ≤ 1) ⌝ }
+{
+    if b {
+        return 1;
+    }
+    0
+}
+
+pub fn mask(b: Bits) -> u32
+    ensures { λ r. ⌜ r ≡ maskOf (bitOf b) ⌝ }
+{
+    digit(b.pre)
+        + 2 * digit(b.IF)
+        + 4 * digit(b.ID)
+        + 8 * digit(b.EX)
+        + 16 * digit(b.MEM)
+        + 32 * digit(b.ST)
+        + 64 * digit(b.WB)
+}
+
+// No bit is set.
+pub fn none(b: Bits) -> bool
+    ensures { λ r. ⌜ r ≡ not (b .pre || b .IF || b .ID || b .EX || b .MEM || b .ST || b .WB) ⌝ }
+{
+    !(b.pre | b.IF | b.ID | b.EX | b.MEM | b.ST | b.WB)
+}
+
+fn bit(mask: u32, level: u32) -> bool
+    requires { ⌜ level < 8 ⌝ }
+    ensures { λ r. ⌜ r ≡ bitAt mask level ⌝ }
+{
+    (mask >> level) % 2 == 1
+}
+
+// The level after another: from MEM a store goes to ST, any other kind to WB.
+fn next(store: bool, level: u32) -> u32
+    requires { ⌜ level < 7 ⌝ }
+    ensures { λ r. ⌜ (r ≡ nextLevel store level) × (level < r) × (r ≤ 7) ⌝ }
+{
+    if level == 4 {
+        if store {
+            return 5;
+        }
+        return 6;
+    }
+    if level == 5 {
+        return 7;
+    }
+    level + 1
+}
+
+// `going` says which instructions have count 0 and are ready, `full` which stages are filled, and
+// `store` whether MEM holds a store.
+fn moves(going: u32, full: u32, store: bool, level: u32) -> bool
+    requires { ⌜ level < 7 ⌝ }
+    ensures { λ r. ⌜ r ≡ movesAt (bits going) (bits full) store (stageAt level) ⌝ }
+{
+    if bit(going, level) {
+        let to = next(store, level);
+        return will_be_free(going, full, store, to);
+    }
+    false
+}
+
+fn will_be_free(going: u32, full: u32, store: bool, level: u32) -> bool
+    requires { ⌜ level ≤ 7 ⌝ }
+    ensures { λ r. ⌜ r ≡ freeAt (bits going) (bits full) store (stageAt level) ⌝ }
+{
+    if level == 7 {
+        return true;
+    }
+    if bit(full, level) {
+        return moves(going, full, store, level);
+    }
+    true
+}
+
+pub fn leaving(going: u32, full: u32, store: bool) -> Bits
+    ensures { λ r. ⌜ r ≡ bitsOf (movesAt (bits going) (bits full) store) ⌝ }
+{
+    Bits {
+        pre: moves(going, full, store, 0),
+        IF: moves(going, full, store, 1),
+        ID: moves(going, full, store, 2),
+        EX: moves(going, full, store, 3),
+        MEM: moves(going, full, store, 4),
+        ST: moves(going, full, store, 5),
+        WB: moves(going, full, store, 6),
+    }
+}

@@ -1,0 +1,56 @@
+-- What the calls of `slide` and of `times_from` give together: one congruence for each, over plain variables.
+use Prim.Native.Nat.{ℕ, _+_, max}
+use mathlib.Core.Bool.{Bool, cond}
+use mathlib.Core.Path.{_≡_}
+use Rattle.machine.specs.Rules.{MEM, isLoad, isStore, holdsFetches, entry}
+use Rattle.machine.proofs.Window as Theory
+use Rattle.record.specs.declared.layout.Fields.{Fields}
+use Rattle.record.specs.Rules.{instructionOf}
+use Rattle.entering.specs.Code.{windowOf}
+use Rattle.entering.specs.declared.levels.Window.{Window}
+use Rattle.entering.proofs.Steps.{sum-joins}
+use Rattle.schedule.specs.Code.{timesOf}
+use Rattle.schedule.specs.declared.sliding.Times.{Times}
+
+-- the window slides
+pub slid
+    : (f : Fields) (w : Window) (e : Times) {branchDone loadDone storeDone loadTarget finish count : ℕ} {load branch store : Bool} →
+    load ≡ isLoad (instructionOf f .kind) →
+    branch ≡ holdsFetches (instructionOf f .kind) →
+    branchDone ≡ cond branch (e .EX + (f .execution + 1)) (w .«branch_done») →
+    count ≡ entry (instructionOf f) MEM →
+    loadDone ≡ cond load (e .MEM + (count + 1)) (w .«load_done») →
+    store ≡ isStore (instructionOf f .kind) →
+    storeDone ≡ cond store (e .post) (w .«store_done») →
+    loadTarget ≡ cond load (f .target) 0 →
+    finish ≡ max (w .finish) (e .post) →
+    _≡_
+    {A = Theory.Window}
+    (record {
+      ID = e .ID;
+      EX = e .EX;
+      MEM = e .MEM;
+      last = e .last;
+      branchDone = branchDone;
+      loadDone = loadDone;
+      storeDone = storeDone;
+      loadTarget = loadTarget;
+      finish = finish;
+    })
+    (Theory.slide (windowOf w) (instructionOf f) (timesOf e))
+unfolding Theory.slide entry instructionOf
+slid f w e load branch branchDone count loadDone store storeDone loadTarget finish =
+    rw
+    (branchDone, loadDone, storeDone, loadTarget, finish, count, sum-joins (e .EX) (f .execution) 1, sum-joins (e .MEM) (entry (instructionOf f) MEM) 1, load, branch, store)
+
+-- times with six equal fields are equal
+pub six-times
+    : {e : Theory.Times} {IF ID EX MEM last post : ℕ} →
+    IF ≡ e .IF →
+    ID ≡ e .ID →
+    EX ≡ e .EX →
+    MEM ≡ e .MEM →
+    last ≡ e .last →
+    post ≡ e .post →
+    _≡_ {A = Theory.Times} (record { IF = IF; ID = ID; EX = EX; MEM = MEM; last = last; post = post }) e
+six-times a b c d e f = λ k. record { IF = a k; ID = b k; EX = c k; MEM = d k; last = e k; post = f k }

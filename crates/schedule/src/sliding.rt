@@ -1,0 +1,88 @@
+// All the times of an instruction, and the window after it.
+ghost use mathlib.Core.Path.{_≡_};
+ghost use Rattle.machine.proofs.Window.{noWindow, timesFrom, slide};
+ghost use Rattle.machine.proofs.WindowBounds.{TimesWithin};
+ghost use Rattle.record.specs.Rules.{instructionOf};
+ghost use Rattle.decode.specs.Access.{AccessLawful};
+ghost use Rattle.entering.specs.Code.{windowOf};
+ghost use Rattle.schedule.specs.Code.{timesOf, maxTime, Room};
+use decode::choose;
+use decode::count_in_mem;
+use decode::holds_fetches;
+use decode::is_load;
+use decode::is_store;
+use decode::later;
+use entering::Window;
+use entering::enter_ex;
+use entering::enter_id;
+use entering::enter_if;
+use entering::enter_last;
+use entering::enter_mem;
+use entering::enter_post;
+use record::Fields;
+
+// When an instruction enters each stage, `last` being ST or WB.
+#[repr(C)]
+pub struct Times {
+    pub IF: u32,
+    pub ID: u32,
+    pub EX: u32,
+    pub MEM: u32,
+    pub last: u32,
+    pub post: u32,
+}
+
+pub fn no_window() -> Window
+    ensures { λ r. ⌜ windowOf r ≡ noWindow ⌝ }
+{
+    Window {
+        ID: 0,
+        EX: 0,
+        MEM: 0,
+        last: 0,
+        branch_done: 0,
+        load_done: 0,
+        store_done: 0,
+        load_target: 0,
+        finish: 0,
+    }
+}
+
+// All six, each from the one before.
+pub fn times_from(w: Window, f: Fields) -> Times
+    requires { ⌜ TimesWithin maxTime (timesFrom (windowOf w) (instructionOf f)) × AccessLawful (instructionOf f) ⌝ }
+    ensures { λ r. ⌜ timesOf r ≡ timesFrom (windowOf w) (instructionOf f) ⌝ }
+{
+    let at_if = enter_if(w, f);
+    let at_id = enter_id(w, f, at_if);
+    let at_ex = enter_ex(w, f, at_id);
+    let at_mem = enter_mem(w, f, at_ex);
+    let at_last = enter_last(w, f, at_mem);
+    Times {
+        IF: at_if,
+        ID: at_id,
+        EX: at_ex,
+        MEM: at_mem,
+        last: at_last,
+        post: enter_post(f, at_last),
+    }
+}
+
+// The window after an instruction that has these times.
+pub fn slide(w: Window, f: Fields, e: Times) -> Window
+    requires { ⌜ Room (instructionOf f) (timesOf e) ⌝ }
+    ensures { λ r. ⌜ windowOf r ≡ slide (windowOf w) (instructionOf f) (timesOf e) ⌝ }
+{
+    let load = is_load(f);
+    Window {
+        ID: e.ID,
+        EX: e.EX,
+        MEM: e.MEM,
+        last: e.last,
+        branch_done: choose(holds_fetches(f), e.EX + (f.execution + 1), w.branch_done),
+        load_done: choose(load, e.MEM + (count_in_mem(f) + 1), w.load_done),
+        store_done: choose(is_store(f), e.post, w.store_done),
+        load_target: choose(load, f.target, 0),
+        finish: later(w.finish, e.post),
+    }
+}

@@ -1,0 +1,76 @@
+// The slots of the state that Run's pass builds, as numbers in one array that is lent to the pass: a
+// State carried by value through the loop would be copied with the padding of its six slots. At each
+// level from IF 1 to WB 6 stands one more than the index of the instruction there, or 0 if there is
+// none; six further on stands its count. The number at level 0, which is pre, is not used.
+ghost use mathlib.Core.Path.{_≡_};
+ghost use Prim.Native.Nat.{_+_, _<_, _≤_, _^_};
+ghost use lib.ListN.{length};
+ghost use Rattle.machine.proofs.Window.{placeAt};
+ghost use Rattle.record.specs.Rules.{instructionOf};
+ghost use Rattle.schedule.specs.Code.{timesOf};
+ghost use Rattle.places.specs.Code.{numbered};
+ghost use Rattle.seats.specs.Seating.{Rising, stateWith, slotSeated, stateSeated, Seated};
+use machine::Slot;
+use machine::State;
+use machine::stage::EX;
+use machine::stage::ID;
+use machine::stage::IF;
+use machine::stage::MEM;
+use machine::stage::ST;
+use machine::stage::WB;
+use places::place_at;
+use record::Fields;
+use schedule::Times;
+
+pub const SEATS: usize = 13;
+
+// How far after a seat its count is.
+const COUNTS: usize = 6;
+
+// Seats instruction k, which is fetched by the limit, unless it has left by then. Most have, which
+// the time of leaving tells without computing a place.
+pub fn seat(seats: &mut [u32; SEATS], f: Fields, e: Times, limit: u32, k: u32)
+    requires { ⌜ (length (now seats) ≡ 13) × Rising (timesOf e) × (e .IF ≤ limit) × (k + 1 < 2 ^ 32) ⌝ }
+    ensures { λ _. ⌜ Seated (now (seats .exit)) (k + 1) (stateWith (numbered (placeAt (instructionOf f) (timesOf e) limit)) k (stateSeated (now (seats .entry)) k)) ⌝ }
+{
+    if limit < e.post {
+        let p = place_at(f, e, limit);
+        let at = p.level as usize;
+        seats[at] = k + 1;
+        seats[COUNTS + at] = p.count;
+    }
+}
+
+fn slot_at(seats: &[u32; SEATS], level: u32) -> Slot
+    requires { ⌜ level ≤ 6 ⌝ }
+    ensures { λ r. ⌜ r ≡ slotSeated (now (seats .entry)) level ⌝ }
+{
+    let at = level as usize;
+    let seat = seats[at];
+    if seat == 0 {
+        return Slot {
+            filled: false,
+            index: 0,
+            count: 0,
+        };
+    }
+    Slot {
+        filled: true,
+        index: seat - 1,
+        count: seats[COUNTS + at],
+    }
+}
+
+pub fn seated(seats: &[u32; SEATS], fetched: u32) -> State
+    ensures { λ r. ⌜ r ≡ stateSeated (now (seats .entry)) fetched ⌝ }
+{
+    State {
+        fetched,
+        IF: slot_at(seats, IF),
+        ID: slot_at(seats, ID),
+        EX: slot_at(seats, EX),
+        MEM: slot_at(seats, MEM),
+        ST: slot_at(seats, ST),
+        WB: slot_at(seats, WB),
+    }
+}

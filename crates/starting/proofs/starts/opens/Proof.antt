@@ -1,0 +1,10 @@
+-- `opens` meets its contract.
+use Rattle.decode.proofs.Joined.{either}
+use Rattle.starting.proofs.starts.opens.Statement.{statement}
+use Rattle.starting.proofs.starts.opens.Tie as tie
+
+returns : tie.Need-returns
+returns c = either _ _
+
+pub opens-spec : {M : Type 1} → statement M
+opens-spec = tie.close (tie.spec returns)

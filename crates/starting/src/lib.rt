@@ -1,0 +1,5 @@
+// Which instructions could move in a cycle, if their next stage will be free.
+mod hazards;
+pub mod starts;
+
+pub use starts::going;
