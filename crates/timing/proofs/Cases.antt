@@ -17,9 +17,10 @@ use Rattle.machine.proofs.Finish.{all-left-is}
 use Rattle.record.specs.Refusal.{_then_, _unless_}
 use Rattle.record.specs.Layout.{fieldsFrom}
 use Rattle.record.specs.Rules.{breaksRules, hasUnknown, kindOf, flagOf, instructionOf}
-use Rattle.record.specs.Body.{breaksAt, unknownAt, firsts, traceOf, recordOf, bodyOf, lengthRefusal, recordRefusal, unknownRefusal, bodyRefusal, settledRefusal}
-use Rattle.record.specs.Cases.{known, refusalOf}
-use Rattle.record.proofs.RoundTrip.{trace-again}
+use Rattle.record.specs.Body.{breaksAt, unknownAt, firsts, traceOf, lengthRefusal, recordRefusal, unknownRefusal, bodyRefusal, settledRefusal}
+use Rattle.encoding.specs.Encoding.{recordOf, bodyOf}
+use Rattle.encoding.specs.Cases.{known, refusalOf}
+use Rattle.encoding.proofs.RoundTrip.{trace-again}
 use Rattle.running.specs.Run.{ranFor, runAnswer}
 use Rattle.timing.specs.Answers.{finishAnswer, bestWorstAnswer, marginAnswer}
 use Rattle.timing.specs.Cases.{finishOf, bestWorstOf, runOf, marginOf, CasesAnswered, ChartAnswered}

@@ -5,7 +5,8 @@ use Rattle.machine.specs.Cases.{cases, caseD}
 use Rattle.record.specs.Refusal.{_then_, _unless_}
 use Rattle.record.specs.Layout.{fieldsFrom}
 use Rattle.record.specs.Rules.{breaksRules, kindOf, flagOf, instructionOf}
-use Rattle.record.specs.Body.{breaksAt, firsts, traceOf, recordOf, bodyOf, recordRefusal}
+use Rattle.record.specs.Body.{breaksAt, firsts, traceOf, recordRefusal}
+use Rattle.encoding.specs.Encoding.{recordOf, bodyOf}
 use Rattle.job.specs.Refusal.{firstRefusal}
 use Rattle.job.specs.Layout.{maxFile, before, bodyStart}
 use Rattle.job.specs.Open.{entryRefusal, entriesRefusal, tableRefusal, tracesRefusal, fileRefusal, openRefusal, openBody}

@@ -12,11 +12,12 @@ use lib.Seq.{getD-drop, ext-getD}
 use Rattle.record.specs.Refusal.{_then_, _unless_}
 use Rattle.little_endian.specs.Numbers.{byte, half, word}
 use Rattle.record.specs.Layout.{recordSize}
-use Rattle.record.specs.Body.{Bytes, halfBytes, firsts, recordRefusal}
+use Rattle.record.specs.Body.{Bytes, firsts, recordRefusal}
+use Rattle.little_endian.specs.Numbers.{halfBytes}
 use Rattle.record.proofs.Refusals.{go-on, passes, last-passes}
 use Rattle.machine.proofs.Connectives.{none-below}
-use Rattle.record.proofs.Encoding.{length-firsts, getD-firsts}
-use Rattle.record.proofs.Numbers.{low-of-half, high-of-half}
+use Rattle.record.proofs.Instructions.{length-firsts, getD-firsts}
+use Rattle.little_endian.proofs.Halves.{low-of-half, high-of-half}
 use Rattle.job.specs.Refusal.{shortOutput}
 use Rattle.job.specs.Layout.{headerSize, entrySize, maxTraces, maxCount, maxFile, traces, countAt, offsetAt, entryAt, before, bodyStart, startAt, recordsOf}
 use Rattle.job.specs.Open.{fileRefusal}

@@ -9,7 +9,8 @@ use lib.Dec.{ltb}
 use lib.ListN.{length, take, drop, length-append}
 use Rattle.machine.specs.Test.{none}
 use Rattle.record.specs.Layout.{recordSize}
-use Rattle.record.specs.Body.{halfBytes, recordRefusal}
+use Rattle.little_endian.specs.Numbers.{halfBytes}
+use Rattle.record.specs.Body.{recordRefusal}
 use Rattle.record.proofs.Refusals.{then-first, then-second, unless-passed}
 use Rattle.machine.proofs.Connectives.{none-at}
 use Rattle.job.specs.Layout.{headerSize, maxTraces, maxCount, maxFile, entryAt, bodyStart}

@@ -6,7 +6,7 @@ use native.Mathlib.Numerals.{add-one}
 use native.Mathlib.Omega.{arith}
 use lib.ListN.{length, take, drop, length-append, take-append-drop}
 use lib.Seq.{length-take-le}
-use Rattle.record.specs.Body.{halfBytes}
+use Rattle.little_endian.specs.Numbers.{halfBytes}
 use Rattle.job.specs.Layout.{headerSize, entrySize, entryAt, bodyStart}
 use Rattle.writer.specs.Write.{count, wordBytes, entryBytes, tableOf}
 use Rattle.text.proofs.Placed.{put-next}

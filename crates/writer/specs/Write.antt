@@ -7,7 +7,8 @@ use lib.ListN.{length, getD, drop}
 use Rattle.machine.specs.Test.{none}
 use Rattle.record.specs.Refusal.{_then_, _unless_}
 use Rattle.record.specs.Layout.{recordSize}
-use Rattle.record.specs.Body.{halfBytes, recordRefusal}
+use Rattle.little_endian.specs.Numbers.{halfBytes}
+use Rattle.record.specs.Body.{recordRefusal}
 use Rattle.job.specs.Refusal.{tooLong, tooManyTraces, largeCount, wrongRecords, shortOutput}
 use Rattle.job.specs.Layout.{maxTraces, maxCount, maxFile, entryAt, before, bodyStart}
 use Rattle.writer.specs.declared.writing.Written.{Written}

@@ -4,7 +4,7 @@ ghost use Prim.Native.Nat.{_+_, _<_, _≤_};
 ghost use mathlib.Core.List.{_++_};
 ghost use lib.ListN.{length, take, drop};
 ghost use Rattle.record.specs.Refusal.{_unless_};
-ghost use Rattle.record.specs.Body.{halfBytes};
+ghost use Rattle.little_endian.specs.Numbers.{halfBytes};
 ghost use Rattle.job.specs.Layout.{entryAt, entrySize, headerSize, maxFile, maxTraces, bodyStart};
 ghost use Rattle.writer.specs.Write.{
   count,

@@ -1,6 +1,6 @@
 -- `pipeline::stepping::records` meets its contract: a body of lawful length has at most 4,096 records.
 use native.Mathlib.Omega.{arith}
-use Rattle.record.proofs.Encoding.{length-traceOf}
+use Rattle.record.proofs.Instructions.{length-traceOf}
 use Rattle.record.proofs.Accepted.{few-by-length}
 use Rattle.pipeline.proofs.stepping.records.Statement.{statement}
 use Rattle.pipeline.proofs.stepping.records.Tie as tie

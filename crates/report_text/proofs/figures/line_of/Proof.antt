@@ -4,7 +4,7 @@ use native.Mathlib.Omega.{arith}
 use Rattle.machine.specs.Time.{best, worst}
 use Rattle.record.specs.Rules.{flagOf}
 use Rattle.record.proofs.Accepted.{few-records}
-use Rattle.record.proofs.Encoding.{length-traceOf}
+use Rattle.record.proofs.Instructions.{length-traceOf}
 use Rattle.timing.proofs.Answered.{best-worst-given}
 use Rattle.timing.specs.declared.calls.BestWorst.{BestWorst}
 use Rattle.report_text.specs.Report.{lineOf}

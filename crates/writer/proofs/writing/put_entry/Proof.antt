@@ -1,7 +1,7 @@
 -- `put_entry` meets its contract: the offset's four bytes and the count's two make one piece.
 use Rattle.text.proofs.Placed.{put-both}
 use Rattle.writer.specs.Write.{wordBytes}
-use Rattle.record.specs.Body.{halfBytes}
+use Rattle.little_endian.specs.Numbers.{halfBytes}
 use native.Mathlib.Omega.{arith}
 use mathlib.Core.Path.{_∙_}
 use borrow.Author.Needs.{needs}

@@ -5,11 +5,12 @@ use native.Mathlib.Nat.{zero-lt-suc}
 use native.Mathlib.Omega.{arith}
 use lib.ListN.{length}
 use Rattle.machine.specs.Instruction.{Instruction, Trace, instruction}
 use Rattle.record.specs.Layout.{fieldsFrom}
-use Rattle.record.specs.Body.{Bytes, breaksAt, recordOf, bodyOf}
-use Rattle.record.specs.Claims.{Lawful}
-use Rattle.record.proofs.Numbers.{kindNumber-le, flagNumber-le}
+use Rattle.record.specs.Body.{Bytes, breaksAt}
+use Rattle.encoding.specs.Encoding.{recordOf, bodyOf}
+use Rattle.encoding.specs.Claims.{Lawful}
+use Rattle.encoding.proofs.Numbers.{kindNumber-le, flagNumber-le}
 use Rattle.record.proofs.Within.{registers-within}
 
 -- the same as `Bytes`, number by number
 abbrev Small : List ℕ → Type 0

@@ -6,8 +6,9 @@ use lib.Dec.{eqb}
 use Rattle.machine.specs.Test.{_and_}
 use Rattle.machine.specs.Instruction.{Flag, hit, miss, unknown, Trace}
 use Rattle.machine.specs.Cases.{Case}
 use Rattle.record.specs.Refusal.{unknownFlag}
-use Rattle.record.specs.Body.{bodyOf, bodyRefusal, settledRefusal}
+use Rattle.encoding.specs.Encoding.{bodyOf}
+use Rattle.record.specs.Body.{bodyRefusal, settledRefusal}
 
 -- D's body as document 01 prints it: the chart program's hex input from the ninth byte on
 abbrev pub bytesOfD : List ℕ

@@ -8,9 +8,10 @@ use lib.ListN.{length}
 use Rattle.machine.specs.Instruction.{Instruction, Trace, instruction}
 use Rattle.machine.specs.Time.{Settling}
 use Rattle.machine.specs.Cases.{cases, further, caseD}
-use Rattle.record.specs.Body.{Bytes, breaksAt, traceOf, recordOf, bodyOf, bodyRefusal, settledRefusal}
+use Rattle.record.specs.Body.{Bytes, breaksAt, traceOf, bodyRefusal, settledRefusal}
+use Rattle.encoding.specs.Encoding.{recordOf, bodyOf}
 use Rattle.record.specs.Refusal.{unknownFlag}
-use Rattle.record.specs.Cases.{bytesOfD, casesAccepted}
+use Rattle.encoding.specs.Cases.{bytesOfD, casesAccepted}
 
 -- Traces are accepted at all: A to L, and the cases that they do not show. Were the rules of a record to refuse everything, what is claimed of
 -- accepted bodies would hold and say nothing.

@@ -9,13 +9,15 @@ use lib.Dec.{eqb}
 use Rattle.machine.specs.Instruction.{Flag, hit, miss, unknown, Instruction}
 use Rattle.machine.specs.Time.{Settled, hit-stays, SettledInstruction, Known}
 use Rattle.machine.proofs.Settled.{settled-known}
 use Rattle.record.specs.declared.layout.Fields.{Fields}
 use Rattle.record.specs.Layout.{fieldsFrom}
 use Rattle.record.specs.Rules.{noAccess, breaksRules, hasUnknown, flagOf, flagNumber, instructionOf}
-use Rattle.record.specs.Body.{breaksAt, recordOf}
-use Rattle.record.specs.Claims.{Lawful}
-use Rattle.record.proofs.Numbers.{number-kindOf, fetch-of-flags, access-of-flags, half-of-bytes}
+use Rattle.record.specs.Body.{breaksAt}
+use Rattle.encoding.specs.Encoding.{recordOf}
+use Rattle.encoding.specs.Claims.{Lawful}
+use Rattle.encoding.proofs.Numbers.{number-kindOf, fetch-of-flags, access-of-flags}
+use Rattle.little_endian.proofs.Halves.{half-of-bytes}
 use Rattle.record.proofs.Within.{Within, rules}
 
 -- the number of a flag that is not unknown
 number-known : (flag : Flag) → ¬ (flag ≡ unknown) → flagNumber flag ≤ 1

@@ -9,16 +9,19 @@ use lib.ListN.{length}
 use lib.Seq.{ext-getD}
 use Rattle.machine.specs.Instruction.{Instruction, Trace, instruction, blank}
 use Rattle.little_endian.specs.Numbers.{byte}
 use Rattle.record.specs.Layout.{recordSize, flagsAt, fetchLatencyAt, dataLatencyAt, fieldsFrom}
 use Rattle.record.specs.Rules.{instructionOf}
-use Rattle.record.specs.Body.{Bytes, records, fieldsAt, breaksAt, firsts, traceOf, recordOf, bodyOf, bodyRefusal}
-use Rattle.record.specs.Claims.{AcceptedIsEncoded, EncodingIsDecoded}
+use Rattle.record.specs.Body.{Bytes, records, fieldsAt, breaksAt, firsts, traceOf, bodyRefusal}
+use Rattle.encoding.specs.Encoding.{recordOf, bodyOf}
+use Rattle.encoding.specs.Claims.{AcceptedIsEncoded, EncodingIsDecoded}
 use Rattle.record.proofs.Alike.{fields-alike}
 use Rattle.record.proofs.Accepted.{accepted-of, whole-records, flags-byte, fields-within}
-use Rattle.record.proofs.Encoding.{getD-firsts, length-traceOf, instruction-traceOf, length-bodyOf, records-bodyOf, byte-bodyOf}
-use Rattle.record.proofs.Fits.{encoding-is-bytes}
-use Rattle.record.proofs.Numbers.{kindOf-number, flagOf-number, fetch-of-flags, access-of-flags, half-of-bytes, number-kindOf, number-flagOf, flags-of-parts, low-of-half, high-of-half}
+use Rattle.record.proofs.Instructions.{getD-firsts, length-traceOf, instruction-traceOf}
+use Rattle.encoding.proofs.Encoding.{length-bodyOf, records-bodyOf, byte-bodyOf}
+use Rattle.encoding.proofs.Fits.{encoding-is-bytes}
+use Rattle.encoding.proofs.Numbers.{kindOf-number, flagOf-number, fetch-of-flags, access-of-flags, number-kindOf, number-flagOf, flags-of-parts}
+use Rattle.little_endian.proofs.Halves.{half-of-bytes, low-of-half, high-of-half}
 use Rattle.record.proofs.Within.{Within}
 
 -- the record of the instruction that a record stands for is that record
 encoded

@@ -38,9 +38,6 @@ module _ (fetch access : Flag) where
   pub access-of-flags : (flagNumber fetch + 4 * flagNumber access) / 4 % 4 ≡ flagNumber access
   access-of-flags = omega (arith, flagNumber-le fetch, flagNumber-le access)
 
-pub half-of-bytes : (n : ℕ) → n % 256 + 256 * (n / 256) ≡ n
-half-of-bytes n = omega arith
-
 -- read, then written
 pub number-kindOf : (n : ℕ) → n ≤ 3 → kindNumber (kindOf n) ≡ n
 unfolding kindOf
@@ -59,10 +56,3 @@ number-flagOf (suc (suc (suc n))) l = absurd (omega arith)
 
 pub flags-of-parts : (b : ℕ) → b ≤ 15 → b % 4 + 4 * (b / 4 % 4) ≡ b
 flags-of-parts b l = omega arith
-
-module _ (low high : ℕ) (small : low < 256) where
-  pub low-of-half : (low + 256 * high) % 256 ≡ low
-  low-of-half = omega arith
-
-  pub high-of-half : (low + 256 * high) / 256 ≡ high
-  high-of-half = omega arith

@@ -10,13 +10,15 @@ use Rattle.machine.specs.Instruction.{Flag, unknown, Instruction, Trace, instru
 use Rattle.machine.specs.Time.{Settled, SettledInstruction, Settling, Known, settle}
 use Rattle.machine.proofs.Settled.{settled-known, settling-length, settling-at, only-settling}
 use Rattle.machine.proofs.Settlings.{settles}
 use Rattle.record.specs.Rules.{hasUnknown, flagOf, instructionOf}
-use Rattle.record.specs.Body.{Bytes, records, fieldsAt, breaksAt, unknownAt, traceOf, bodyOf, settledBody, bodyRefusal, settledRefusal}
-use Rattle.record.specs.Claims.{Lawful, SettlingsAreBodies}
+use Rattle.record.specs.Body.{Bytes, records, fieldsAt, breaksAt, unknownAt, traceOf, bodyRefusal, settledRefusal}
+use Rattle.encoding.specs.Encoding.{bodyOf, settledBody}
+use Rattle.encoding.specs.Claims.{Lawful, SettlingsAreBodies}
 use Rattle.record.proofs.Accepted.{settled-of, few-records, breaks-none, fields-within, settled-accepted, flags-known}
-use Rattle.record.proofs.Encoding.{length-traceOf, instruction-traceOf, records-bodyOf}
-use Rattle.record.proofs.RoundTrip.{fields-bodyOf, accepted-is-encoded, encoding-is-decoded}
-use Rattle.record.proofs.SettledRecord.{settled-lawful, known-record}
+use Rattle.record.proofs.Instructions.{length-traceOf, instruction-traceOf}
+use Rattle.encoding.proofs.Encoding.{records-bodyOf}
+use Rattle.encoding.proofs.RoundTrip.{fields-bodyOf, accepted-is-encoded, encoding-is-decoded}
+use Rattle.encoding.proofs.SettledRecord.{settled-lawful, known-record}
 
 module _ (body : List ℕ) (b : Bytes body) (accepted : bodyRefusal body ≡ 0) (settling : Trace) (h : Settling (traceOf body) settling) where
   same-length : length settling ≡ records body
