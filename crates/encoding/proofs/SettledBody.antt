@@ -8,6 +8,7 @@ use native.Mathlib.Omega.{arith}
 use lib.ListN.{length}
 use Rattle.machine.specs.Instruction.{Flag, unknown, Instruction, Trace, instruction}
 use Rattle.machine.specs.Time.{Settled, SettledInstruction, Settling, Known, settle}
+use Rattle.machine.specs.State.{maxInstructions}
 use Rattle.machine.proofs.Settled.{settled-known, settling-length, settling-at, only-settling}
 use Rattle.machine.proofs.Settlings.{settles}
 use Rattle.record.specs.Rules.{hasUnknown, flagOf, instructionOf}
@@ -31,7 +32,7 @@ module _ (body : List ℕ) (b : Bytes body) (accepted : bodyRefusal body ≡ 0) 
       (instruction-traceOf body k l)
       (settling-at h k (omega (arith, length-traceOf body)))
 
-  few : length settling ≤ 4096
+  few : length settling ≤ maxInstructions
   few = omega (arith, same-length, few-records body accepted)
 
   lawful : (k : ℕ) → k < length settling → Lawful (instruction settling k)

@@ -7,6 +7,7 @@ use lib.Dec.{T}
 use lib.ListN.{length}
 use Rattle.machine.specs.Instruction.{Instruction, Trace, instruction}
 use Rattle.machine.specs.Time.{Settling}
+use Rattle.machine.specs.State.{maxInstructions}
 use Rattle.machine.specs.Cases.{cases, further, caseD}
 use Rattle.record.specs.Body.{Bytes, breaksAt, traceOf, bodyRefusal, settledRefusal}
 use Rattle.encoding.specs.Encoding.{recordOf, bodyOf}
@@ -41,7 +42,7 @@ pub record Lawful (i : Instruction) : Type 0 where
 abbrev pub EncodingIsDecoded : Type 0
 EncodingIsDecoded =
     (trace : Trace) →
-    length trace ≤ 4096 →
+    length trace ≤ maxInstructions →
     ((k : ℕ) → k < length trace → Lawful (instruction trace k)) →
     (traceOf (bodyOf trace) ≡ trace) × Bytes (bodyOf trace) × (bodyRefusal (bodyOf trace) ≡ 0)
 

@@ -6,6 +6,7 @@ use lib.Dec.{ltb, leb, eqb}
 use lib.ListN.{length}
 use Rattle.machine.specs.Test.{every, none}
 use Rattle.machine.specs.Instruction.{Trace}
+use Rattle.machine.specs.State.{maxInstructions}
 use Rattle.record.specs.Refusal.{_then_, _unless_, brokenRecord, outOfRange, wrongLength, unknownFlag}
 use Rattle.little_endian.specs.Numbers.{byte}
 use Rattle.record.specs.Layout.{recordSize, flagsAt, fieldsFrom}
@@ -43,7 +44,7 @@ traceOf body = firsts (λ k. instructionOf (fieldsAt body k)) (records body)
 
 -- "10 length not ten times a number up to 4,096"
 unfoldable pub lengthRefusal : List ℕ → ℕ
-lengthRefusal body = wrongLength unless (eqb (length body % recordSize) 0 && leb (records body) 4096)
+lengthRefusal body = wrongLength unless (eqb (length body % recordSize) 0 && leb (records body) maxInstructions)
 
 -- "8": a record breaks its rules
 unfoldable pub recordRefusal : List ℕ → ℕ
