@@ -2,13 +2,14 @@
 ghost use mathlib.Core.Path.{_≡_};
 ghost use Prim.Native.Nat.{_≤_};
 ghost use lib.ListN.{length};
+ghost use Rattle.machine.specs.State.{maxInstructions};
 ghost use Rattle.record.specs.Body.{traceOf, lengthRefusal};
 ghost use Rattle.pipeline.specs.Step.{stepAnswer};
 use crate::refusal::NOT_ORDERLY;
+use acceptance::settled_refusal;
 use cycle::cycle;
 use machine::State;
 use record::layout::RECORD_SIZE;
-use record::settled_refusal;
 use standing::orderly;
 use standing::read_stages;
 
@@ -21,7 +22,7 @@ pub struct Stepped {
 // How many instructions a body of lawful length holds.
 fn records(body: &[u8]) -> u32
     requires { ⌜ lengthRefusal (now body) ≡ 0 ⌝ }
-    ensures { λ r. ⌜ (length (traceOf (now (body .entry))) ≡ r) × (r ≤ 4096) ⌝ }
+    ensures { λ r. ⌜ (length (traceOf (now (body .entry))) ≡ r) × (r ≤ maxInstructions) ⌝ }
 {
     (body.len() / RECORD_SIZE) as u32
 }

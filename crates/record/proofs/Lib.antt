@@ -1,7 +1,7 @@
 pub mod Alike
 pub mod Accepted
 pub mod Instructions
-pub mod Limits
+pub mod Lawful
 pub mod Refusals
 pub mod Scan
 pub mod Within

@@ -48,7 +48,7 @@ pub struct Read {
     pub fields: Fields,
 }
 
-pub(crate) fn fields_from(bytes: &[u8], at: usize) -> Fields
+pub fn fields_from(bytes: &[u8], at: usize) -> Fields
     requires { ⌜ at + recordSize ≤ length (now bytes) ⌝ }
     ensures { λ r. ⌜ r ≡ fieldsFrom (now (bytes .entry)) at ⌝ }
 {

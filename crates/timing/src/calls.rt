@@ -8,10 +8,10 @@ ghost use Rattle.timing.specs.Answers.{
   alikeAnswer,
 };
 use crate::pass::finish_settled;
+use acceptance::body_refusal;
+use acceptance::settled_refusal;
 use decode::HIT;
 use decode::MISS;
-use record::body_refusal;
-use record::settled_refusal;
 
 #[repr(C)]
 pub struct Finished {

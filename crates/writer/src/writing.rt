@@ -16,6 +16,7 @@ ghost use Rattle.writer.specs.Write.{
   writeAnswer,
   writeOutput,
 };
+use acceptance::record_refusal;
 use job::refusal::LARGE_COUNT;
 use job::refusal::SHORT_OUTPUT;
 use job::refusal::TOO_LONG;
@@ -28,7 +29,6 @@ use job::table::MAX_TRACES;
 use job::table::RECORD_BYTES;
 use machine::State;
 use record::layout::RECORD_SIZE;
-use record::record_refusal;
 
 #[repr(C)]
 pub struct Written {

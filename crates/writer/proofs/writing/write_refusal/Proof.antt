@@ -11,7 +11,7 @@ use Rattle.writer.proofs.writing.write_refusal.Reads as reads
 use Rattle.writer.proofs.writing.write_refusal.Lts as lts
 use Rattle.writer.proofs.writing.counts_refusal.Reads as counts-refusal-reads
 use Rattle.writer.proofs.writing.sum_of.Reads as sum-of-reads
-use Rattle.record.proofs.record_refusal.Reads as record-refusal-reads
+use Rattle.acceptance.proofs.record_refusal.Reads as record-refusal-reads
 
 cast-if1 : tie.Need-cast-if1
 cast-if1 c = search needs

@@ -1,0 +1,29 @@
+-- What is shown of the rules of a record, as a named type.
+use Prim.Native.Nat.{ℕ}
+use mathlib.Core.Bool.{false}
+use mathlib.Core.Path.{_≡_}
+use Rattle.record.specs.Rules.{breaksRules}
+use Rattle.record.specs.declared.layout.Fields.{Fields}
+
+-- register 0 alone, hits, a fetch latency of 1
+abbrev simplest : ℕ → ℕ → Fields
+simplest kind latency =
+    record {
+      kind = kind;
+      fetch = 0;
+      access = 0;
+      source1 = 0;
+      source2 = 0;
+      target = 0;
+      execution = 0;
+      «fetch_latency» = 1;
+      «data_latency» = latency;
+    }
+
+-- A record of each kind keeps the rules. Were they to refuse everything, what is claimed of accepted bodies would hold and say nothing.
+abbrev pub EachKindLawful : Type 0
+EachKindLawful =
+    (breaksRules (simplest 0 0) 0 ≡ false)
+    × (breaksRules (simplest 1 1) 0 ≡ false)
+    × (breaksRules (simplest 2 1) 0 ≡ false)
+    × (breaksRules (simplest 3 0) 0 ≡ false)
