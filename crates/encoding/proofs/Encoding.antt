@@ -8,13 +8,14 @@ use lib.ListN.{length, length-append, List·getD-append}
 use lib.Seq.{getD-append-add}
 use Rattle.machine.specs.Instruction.{Instruction, Trace, instruction}
 use Rattle.little_endian.specs.Numbers.{byte}
-use Rattle.record.specs.Layout.{recordSize}
+use Rattle.record.specs.Rules.{fieldsOf}
+use Rattle.record.specs.Layout.{recordSize, recordBytes}
 use Rattle.record.specs.Body.{records}
 use Rattle.encoding.specs.Encoding.{recordOf, bodyOf}
 
 -- the body of a trace has ten bytes for each instruction
 pub length-recordOf : (i : Instruction) → length (recordOf i) ≡ recordSize
-unfolding recordOf
+unfolding recordOf recordBytes fieldsOf
 length-recordOf i = refl
 
 pub length-bodyOf : (trace : Trace) → length (bodyOf trace) ≡ length trace * recordSize

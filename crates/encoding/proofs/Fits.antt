@@ -5,7 +5,8 @@ use native.Mathlib.Nat.{zero-lt-suc}
 use native.Mathlib.Omega.{arith}
 use lib.ListN.{length}
 use Rattle.machine.specs.Instruction.{Instruction, Trace, instruction}
-use Rattle.record.specs.Layout.{fieldsFrom}
+use Rattle.record.specs.Rules.{fieldsOf}
+use Rattle.record.specs.Layout.{fieldsFrom, recordBytes}
 use Rattle.record.specs.Body.{Bytes, breaksAt}
 use Rattle.encoding.specs.Encoding.{recordOf, bodyOf}
 use Rattle.encoding.specs.Claims.{Lawful}
@@ -27,7 +28,7 @@ small-bytes (x ∷ numbers) s zero = s .0
 small-bytes (x ∷ numbers) s (suc n) = small-bytes numbers (s .1) n
 
 record-small : (i : Instruction) → Lawful i → Small (recordOf i)
-unfolding recordOf breaksAt fieldsFrom
+unfolding recordOf recordBytes fieldsOf breaksAt fieldsFrom
 record-small i h =
     let registers = registers-within _ _ (h .rules) in
     omega (arith, kindNumber-le (i .kind), flagNumber-le (i .fetch), flagNumber-le (i .access))

@@ -9,8 +9,8 @@ use lib.ListN.{length}
 use lib.Seq.{ext-getD}
 use Rattle.machine.specs.Instruction.{Instruction, Trace, instruction, blank}
 use Rattle.little_endian.specs.Numbers.{byte}
-use Rattle.record.specs.Layout.{recordSize, flagsAt, fetchLatencyAt, dataLatencyAt, fieldsFrom}
-use Rattle.record.specs.Rules.{instructionOf}
+use Rattle.record.specs.Layout.{recordSize, flagsAt, fetchLatencyAt, dataLatencyAt, fieldsFrom, recordBytes}
+use Rattle.record.specs.Rules.{instructionOf, fieldsOf}
 use Rattle.record.specs.Body.{Bytes, records, fieldsAt, breaksAt, firsts, traceOf, bodyRefusal}
 use Rattle.encoding.specs.Encoding.{recordOf, bodyOf}
 use Rattle.encoding.specs.Claims.{AcceptedIsEncoded, EncodingIsDecoded}
@@ -30,7 +30,7 @@ encoded
     byte bytes (at + flagsAt) ≤ 15 →
     Within (fieldsFrom bytes at) →
     recordOf (instructionOf (fieldsFrom bytes at)) ≡ firsts (λ j. byte bytes (at + j)) recordSize
-unfolding fieldsFrom recordOf instructionOf firsts
+unfolding fieldsFrom recordOf recordBytes fieldsOf instructionOf firsts
 encoded bytes at b flags w =
     rw (
       number-kindOf _ (w .kind),
@@ -72,7 +72,7 @@ accepted-is-encoded body b accepted =
 
 -- the instruction that the record of an instruction stands for is that instruction
 decoded : (i : Instruction) → instructionOf (fieldsFrom (recordOf i) 0) ≡ i
-unfolding fieldsFrom recordOf instructionOf
+unfolding fieldsFrom recordOf recordBytes fieldsOf instructionOf
 decoded i =
     rw (
       fetch-of-flags (i .fetch) (i .access),

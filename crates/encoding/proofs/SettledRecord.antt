@@ -10,8 +10,8 @@ use Rattle.machine.specs.Instruction.{Flag, hit, miss, unknown, Instruction}
 use Rattle.machine.specs.Time.{Settled, hit-stays, SettledInstruction, Known}
 use Rattle.machine.proofs.Settled.{settled-known}
 use Rattle.record.specs.declared.layout.Fields.{Fields}
-use Rattle.record.specs.Layout.{fieldsFrom}
-use Rattle.record.specs.Rules.{noAccess, breaksRules, hasUnknown, flagOf, flagNumber, instructionOf}
+use Rattle.record.specs.Layout.{fieldsFrom, recordBytes}
+use Rattle.record.specs.Rules.{noAccess, breaksRules, hasUnknown, flagOf, flagNumber, instructionOf, fieldsOf}
 use Rattle.record.specs.Body.{breaksAt}
 use Rattle.encoding.specs.Encoding.{recordOf}
 use Rattle.encoding.specs.Claims.{Lawful}
@@ -64,7 +64,7 @@ module _ (f : Fields) (s : Instruction) (h : SettledInstruction (instructionOf f
       }
 
   fields-settled : Within f → fieldsFrom (recordOf s) 0 ≡ fields
-  unfolding fieldsFrom recordOf instructionOf fields fetch access
+  unfolding fieldsFrom recordOf recordBytes fieldsOf instructionOf fields fetch access
   fields-settled w =
       rw (
         fetch-of-flags (s .fetch) (s .access),
@@ -99,7 +99,7 @@ module _ (f : Fields) (s : Instruction) (h : SettledInstruction (instructionOf f
       )
 
   pub settled-lawful : (flags : ℕ) → breaksRules f flags ≡ false → Within f → Lawful s
-  unfolding breaksAt recordOf instructionOf fetch access
+  unfolding breaksAt recordOf recordBytes fieldsOf instructionOf fetch access
   settled-lawful flags lawful w =
       record {
         executionLatency = rw (h .executionLatency) (omega (arith, w .execution));
@@ -110,7 +110,7 @@ module _ (f : Fields) (s : Instruction) (h : SettledInstruction (instructionOf f
 
 -- the record of an instruction without an unknown flag
 pub known-record : (i : Instruction) → Known i → hasUnknown (fieldsFrom (recordOf i) 0) ≡ false
-unfolding hasUnknown fieldsFrom recordOf
+unfolding hasUnknown fieldsFrom recordOf recordBytes fieldsOf
 known-record i k =
     let fetch = number-known (i .fetch) (k .fetch) in
     let access = number-known (i .access) (k .access) in

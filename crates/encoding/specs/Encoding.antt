@@ -1,22 +1,15 @@
 -- The bytes of a trace: document 01, "Job file and instruction record".
-use Prim.Native.Nat.{ℕ, _+_, _*_}
+use Prim.Native.Nat.{ℕ}
 use mathlib.Core.List.{List, [], _∷_, _++_}
 use Rattle.machine.specs.Instruction.{Flag, Instruction, Trace}
 use Rattle.machine.specs.Time.{settle}
-use Rattle.little_endian.specs.Numbers.{halfBytes}
-use Rattle.record.specs.Rules.{kindNumber, flagNumber}
+use Rattle.record.specs.Layout.{recordBytes}
+use Rattle.record.specs.Rules.{fieldsOf}
 use Rattle.record.specs.Body.{traceOf}
 
 -- the ten bytes of an instruction, and the body of a trace
 unfoldable pub recordOf : Instruction → List ℕ
-recordOf i =
-    kindNumber (i .kind)
-    ∷ (flagNumber (i .fetch) + 4 * flagNumber (i .access))
-    ∷ i .source1
-    ∷ i .source2
-    ∷ i .target
-    ∷ i .executionLatency
-    ∷ halfBytes (i .fetchLatency) ++ halfBytes (i .dataLatency)
+recordOf i = recordBytes (fieldsOf i)
 
 unfoldable pub bodyOf : Trace → List ℕ
 bodyOf [] = []

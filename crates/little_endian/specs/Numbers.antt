@@ -14,6 +14,9 @@ half bytes at = byte bytes at + 256 * byte bytes (at + 1)
 abbrev pub word : List ℕ → ℕ → ℕ
 word bytes at = byte bytes at + 256 * byte bytes (at + 1) + 65536 * byte bytes (at + 2) + 16777216 * byte bytes (at + 3)
 
--- a number below 65,536 as two bytes
+-- The same the other way: a number below 65,536 as two bytes, and one below 2 ^ 32 as four
 abbrev pub halfBytes : ℕ → List ℕ
 halfBytes n = n % 256 ∷ n / 256 ∷ []
+
+abbrev pub wordBytes : ℕ → List ℕ
+wordBytes n = n % 256 ∷ n / 256 % 256 ∷ n / 65536 % 256 ∷ n / 16777216 ∷ []

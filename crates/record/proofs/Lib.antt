@@ -5,3 +5,4 @@ pub mod Lawful
 pub mod Refusals
 pub mod Scan
 pub mod Within
+pub mod Written

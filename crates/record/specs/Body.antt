@@ -3,13 +3,13 @@ use Prim.Native.Nat.{ℕ, zero, suc, _+_, _*_, _/_, _%_, _<_}
 use mathlib.Core.Bool.{Bool, true, false, not, _&&_, cond}
 use mathlib.Core.List.{List, [], _∷_, _++_}
 use lib.Dec.{ltb, leb, eqb}
-use lib.ListN.{length}
+use lib.ListN.{length, take, drop}
 use Rattle.machine.specs.Test.{every, none}
 use Rattle.machine.specs.Instruction.{Trace}
 use Rattle.machine.specs.State.{maxInstructions}
 use Rattle.record.specs.Refusal.{_then_, _unless_, brokenRecord, outOfRange, wrongLength, unknownFlag}
 use Rattle.little_endian.specs.Numbers.{byte}
-use Rattle.record.specs.Layout.{recordSize, flagsAt, fieldsFrom}
+use Rattle.record.specs.Layout.{recordSize, flagsAt, fieldsFrom, recordBytes}
 use Rattle.record.specs.Rules.{breaksRules, hasUnknown, instructionOf}
 use Rattle.record.specs.declared.layout.Fields.{Fields}
 use Rattle.record.specs.declared.layout.Read.{Read}
@@ -31,6 +31,10 @@ breaksAt body k = breaksRules (fieldsAt body k) (byte body (k * recordSize + fla
 
 unfoldable pub unknownAt : List ℕ → ℕ → Bool
 unknownAt body k = hasUnknown (fieldsAt body k)
+
+-- the body with other fields in record k
+unfoldable pub withRecord : List ℕ → ℕ → Fields → List ℕ
+withRecord body k f = take (k * recordSize) body ++ recordBytes f ++ drop (k * recordSize + recordSize) body
 
 -- f 0, f 1, .. f (n - 1)
 module _ {A : Type 0} where

@@ -1,7 +1,8 @@
--- What is shown of the rules of a record, as a named type.
+-- What is shown of records, as named types.
 use Prim.Native.Nat.{ℕ}
 use mathlib.Core.Bool.{false}
 use mathlib.Core.Path.{_≡_}
+use Rattle.record.specs.Layout.{fieldsFrom, recordBytes, Fits}
 use Rattle.record.specs.Rules.{breaksRules}
 use Rattle.record.specs.declared.layout.Fields.{Fields}
 
@@ -27,3 +28,7 @@ EachKindLawful =
     × (breaksRules (simplest 1 1) 0 ≡ false)
     × (breaksRules (simplest 2 1) 0 ≡ false)
     × (breaksRules (simplest 3 0) 0 ≡ false)
+
+-- Fields that are written are read back.
+abbrev pub WrittenIsRead : Type 0
+WrittenIsRead = (f : Fields) → Fits f → fieldsFrom (recordBytes f) 0 ≡ f

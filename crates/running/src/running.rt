@@ -15,7 +15,7 @@ use crate::seats::seated;
 use acceptance::settled_refusal;
 use decode::HIT;
 use machine::State;
-use record::layout::RECORD_SIZE;
+use record::count;
 use schedule::no_window;
 use schedule::settled_at;
 use schedule::slide;
@@ -49,7 +49,7 @@ fn pass(body: &[u8], to: u32, limit: u32, seats: &mut [u32; SEATS]) -> Fetched
     requires { ⌜ (bodyRefusal (now body) ≡ 0) × (now seats ≡ replicate 13 0) ⌝ }
     ensures { λ r. ⌜ Stopped (settle (flagOf to) (traceOf (now (body .entry)))) limit r (now (seats .exit)) ⌝ }
 {
-    let records = (body.len() / RECORD_SIZE) as u32;
+    let records = count(body);
     let mut w = no_window();
     let mut k = 0;
     while k < records {
@@ -81,7 +81,7 @@ pub fn run_settled(body: &[u8], to: u32, limit: u32) -> Ran
     let mut seats = [0u32; SEATS];
     let fetched = pass(body, to, limit, &mut seats);
     let state = seated(&seats, fetched.count);
-    if (fetched.count as usize) < body.len() / RECORD_SIZE {
+    if fetched.count < count(body) {
         return Ran {
             refusal: 0,
             state,

@@ -16,7 +16,7 @@ use Rattle.machine.proofs.Connectives.{none-at}
 use Rattle.job.specs.Layout.{headerSize, maxTraces, maxCount, maxFile, entryAt, bodyStart}
 use Rattle.writer.specs.Write.{count, sum, fileLength, countsRefusal, writeRefusal, tableOf, fileOf, writeAnswer, writeOutput}
 use Rattle.writer.specs.declared.writing.Written.{Written}
-use Rattle.text.proofs.Placed.{put-next}
+use Rattle.little_endian.proofs.Placed.{put-next}
 use Rattle.job.proofs.Starts.{start-before}
 use Rattle.writer.proofs.WrittenTable.{length-table}
 

@@ -6,10 +6,10 @@ use native.Mathlib.Numerals.{add-one}
 use mathlib.Core.List.{_∷_, []}
 use Prim.Native.Nat.{ℕ, _/_, _%_}
 use borrow.Author.Needs.{needs}
-use Rattle.writer.proofs.writing.put_half.Statement.{statement}
-use Rattle.writer.proofs.writing.put_half.Tie as tie
-use Rattle.writer.proofs.writing.put_half.Reads as reads
-use Rattle.writer.proofs.writing.put_half.Lts as lts
+use Rattle.little_endian.proofs.put_half.Statement.{statement}
+use Rattle.little_endian.proofs.put_half.Tie as tie
+use Rattle.little_endian.proofs.put_half.Reads as reads
+use Rattle.little_endian.proofs.put_half.Lts as lts
 
 cast-out : tie.Need-cast-out
 cast-out c = search needs
