@@ -15,11 +15,12 @@ use Rattle.machine.specs.Cases.{Case, cases, further, chartOfD}
 use Rattle.machine.proofs.Connectives.{Value, passed, failed, value, both-ways, and-l, and-r, implies}
 use Rattle.machine.proofs.Finish.{all-left-is}
 use Rattle.record.specs.Refusal.{_then_, _unless_}
-use Rattle.record.specs.Layout.{fieldsFrom}
-use Rattle.record.specs.Rules.{breaksRules, hasUnknown, kindOf, flagOf, instructionOf}
-use Rattle.record.specs.Body.{breaksAt, unknownAt, firsts, traceOf, recordOf, bodyOf, lengthRefusal, recordRefusal, unknownRefusal, bodyRefusal, settledRefusal}
-use Rattle.record.specs.Cases.{known, refusalOf}
-use Rattle.record.proofs.RoundTrip.{trace-again}
+use Rattle.record.specs.Layout.{fieldsFrom, recordBytes}
+use Rattle.record.specs.Rules.{breaksRules, hasUnknown, kindOf, flagOf, instructionOf, fieldsOf}
+use Rattle.record.specs.Body.{breaksAt, unknownAt, firsts, traceOf, lengthRefusal, recordRefusal, unknownRefusal, bodyRefusal, settledRefusal}
+use Rattle.encoding.specs.Encoding.{recordOf, bodyOf}
+use Rattle.encoding.specs.Cases.{known, refusalOf}
+use Rattle.encoding.proofs.RoundTrip.{trace-again}
 use Rattle.running.specs.Run.{ranFor, runAnswer}
 use Rattle.timing.specs.Answers.{finishAnswer, bestWorstAnswer, marginAnswer}
 use Rattle.claims.specs.Cases.{finishOf, bestWorstOf, runOf, marginOf, CasesAnswered, ChartAnswered}
@@ -89,15 +90,15 @@ map-same {A} test f g same (c ∷ cs) e =
     ap₂ (λ (a : A) (rest : List A). a ∷ rest) (same c (and-l _ _ e)) (map-same test f g same cs (and-r _ _ e))
 
 cases-run : all runs (cases ++ further) ≡ true
-unfolding _and_ _or_ every none next furtherOn shortOf entry noOlder reads missesData readyIn ready budget movesWithin moves cycle allPre after allLeft bound leastFrom finish cases further _then_ _unless_ fieldsFrom breaksRules hasUnknown breaksAt unknownAt recordOf bodyOf lengthRefusal recordRefusal unknownRefusal bodyRefusal settledRefusal known refusalOf runs all
+unfolding _and_ _or_ every none next furtherOn shortOf entry noOlder reads missesData readyIn ready budget movesWithin moves cycle allPre after allLeft bound leastFrom finish cases further _then_ _unless_ fieldsFrom breaksRules hasUnknown breaksAt unknownAt recordOf recordBytes fieldsOf bodyOf lengthRefusal recordRefusal unknownRefusal bodyRefusal settledRefusal known refusalOf runs all
 cases-run = refl
 
 cases-margin : all margins (cases ++ further) ≡ true
-unfolding _and_ _or_ every none next furtherOn shortOf entry noOlder reads missesData readyIn ready budget movesWithin moves cycle allPre after allLeft bound leastFrom finish settle worst cases further _then_ _unless_ fieldsFrom breaksRules breaksAt recordOf bodyOf lengthRefusal recordRefusal bodyRefusal margins all
+unfolding _and_ _or_ every none next furtherOn shortOf entry noOlder reads missesData readyIn ready budget movesWithin moves cycle allPre after allLeft bound leastFrom finish settle worst cases further _then_ _unless_ fieldsFrom breaksRules breaksAt recordOf recordBytes fieldsOf bodyOf lengthRefusal recordRefusal bodyRefusal margins all
 cases-margin = refl
 
 pub cases-answered : CasesAnswered
-unfolding _and_ _or_ every none next furtherOn shortOf entry noOlder reads missesData readyIn ready budget movesWithin moves cycle allPre after allLeft bound leastFrom finish settle best worst cases further _then_ _unless_ fieldsFrom breaksRules hasUnknown kindOf flagOf instructionOf breaksAt unknownAt firsts traceOf recordOf bodyOf lengthRefusal recordRefusal unknownRefusal bodyRefusal settledRefusal known refusalOf finishAnswer bestWorstAnswer finishOf bestWorstOf
+unfolding _and_ _or_ every none next furtherOn shortOf entry noOlder reads missesData readyIn ready budget movesWithin moves cycle allPre after allLeft bound leastFrom finish settle best worst cases further _then_ _unless_ fieldsFrom breaksRules hasUnknown kindOf flagOf instructionOf breaksAt unknownAt firsts traceOf recordOf recordBytes fieldsOf bodyOf lengthRefusal recordRefusal unknownRefusal bodyRefusal settledRefusal known refusalOf finishAnswer bestWorstAnswer finishOf bestWorstOf
 cases-answered =
     record {
       finish = refl;

@@ -11,12 +11,13 @@ use Rattle.machine.proofs.RunStates.{run-stops-places}
 use Rattle.machine.proofs.Slower.{slower-length, ordered}
 use Rattle.machine.proofs.Longer.{added-at-most}
 use Rattle.machine.proofs.Settlings.{settlings-enclosed}
-use Rattle.record.specs.Body.{records, traceOf, bodyOf, settledBody, bodyRefusal, settledRefusal}
+use Rattle.record.specs.Body.{records, traceOf, bodyRefusal, settledRefusal}
+use Rattle.encoding.specs.Encoding.{bodyOf, settledBody}
 use Rattle.running.specs.Run.{ranFor, runAnswer}
 use Rattle.timing.specs.Answers.{finishAnswer, bestWorstAnswer}
 use Rattle.claims.specs.Claim.{Passes, Compared, Attained, Holds, rules, calls, SettlingsCovered, Demand3}
-use Rattle.record.proofs.Encoding.{length-traceOf}
-use Rattle.record.proofs.SettledBody.{settlings-are-bodies, settled-body-bytes, settled-body-passes, settled-body-decoded, settled-body-settles}
+use Rattle.record.proofs.Instructions.{length-traceOf}
+use Rattle.encoding.proofs.SettledBody.{settlings-are-bodies, settled-body-bytes, settled-body-passes, settled-body-decoded, settled-body-settles}
 
 -- the body with every unknown flag made one flag attains its trace's time
 attained : (to : Flag) → Settled unknown to → (body : List ℕ) → Passes bodyRefusal body → Attained rules body (finish (settle to (traceOf body)))

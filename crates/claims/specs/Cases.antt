@@ -8,8 +8,9 @@ use lib.IntN.{pos, _-ℤ_}
 use Rattle.machine.specs.Rules.{after}
 use Rattle.machine.specs.State.{start, stateOf}
 use Rattle.machine.specs.Cases.{Case, cases, further, chartOfD}
-use Rattle.record.specs.Body.{firsts, bodyOf}
-use Rattle.record.specs.Cases.{bytesOfD, known, refusalOf}
+use Rattle.record.specs.Body.{firsts}
+use Rattle.encoding.specs.Encoding.{bodyOf}
+use Rattle.encoding.specs.Cases.{bytesOfD, known, refusalOf}
 use Rattle.running.specs.Run.{runAnswer}
 use Rattle.running.specs.declared.running.Ran.{Ran}
 use Rattle.timing.specs.Answers.{finishAnswer, bestWorstAnswer, marginAnswer}

@@ -4,6 +4,7 @@ ghost use mathlib.Core.Bool.{cond};
 ghost use Prim.Native.Nat.{suc, _≤_};
 ghost use lib.ListN.{length};
 ghost use Rattle.machine.specs.Instruction.{Trace};
+ghost use Rattle.machine.specs.State.{maxInstructions};
 ghost use Rattle.machine.proofs.BySlots.{occupied, storeInMEM, leaves, slotAfter, stepBySlots};
 ghost use Rattle.standing.specs.Reads.{Reads};
 ghost use Rattle.moving.specs.Bits.{bitsOf};
@@ -63,7 +64,7 @@ fn slot_after(arrives: bool, index: u32, count: u32, gone: bool, old: Slot) -> S
 }
 
 fn fetched_after(fetches: bool, fetched: u32) -> u32
-    requires { ⌜ fetched ≤ 4096 ⌝ }
+    requires { ⌜ fetched ≤ maxInstructions ⌝ }
     ensures { λ r. ⌜ r ≡ cond fetches (suc fetched) fetched ⌝ }
 {
     if fetches {
@@ -74,7 +75,7 @@ fn fetched_after(fetches: bool, fetched: u32) -> u32
 
 // What comes into each slot is what leaves the one before; from MEM a store goes to ST.
 fn slots_after(s: State, w: Standing, moving: Bits, store: bool) -> State
-    requires { ⌜ s .fetched ≤ 4096 ⌝ }
+    requires { ⌜ s .fetched ≤ maxInstructions ⌝ }
     ensures { λ r. ⌜ ((trace : Trace) →
         Reads trace s w →
         moving ≡ bitsOf (leaves trace s) →
@@ -114,7 +115,7 @@ fn all_stay(s: State) -> State
 }
 
 pub fn cycle(n: u32, s: State, w: Standing) -> State
-    requires { ⌜ s .fetched ≤ 4096 ⌝ }
+    requires { ⌜ s .fetched ≤ maxInstructions ⌝ }
     ensures { λ r. ⌜ ((trace : Trace) → Reads trace s w → length trace ≡ n → r ≡ stepBySlots trace s) ⌝ }
 {
     let starting = going(n, s, w);

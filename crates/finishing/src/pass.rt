@@ -3,7 +3,7 @@ ghost use mathlib.Core.Path.{_≡_};
 ghost use Rattle.machine.specs.Time.{finish, settle};
 ghost use Rattle.record.specs.Rules.{flagOf};
 ghost use Rattle.record.specs.Body.{traceOf, bodyRefusal};
-use record::layout::RECORD_SIZE;
+use record::count;
 use schedule::no_window;
 use schedule::slide;
 use schedule::times_from;
@@ -14,7 +14,7 @@ pub fn finish_settled(body: &[u8], to: u32) -> u32
     requires { ⌜ bodyRefusal (now body) ≡ 0 ⌝ }
     ensures { λ r. ⌜ r ≡ finish (settle (flagOf to) (traceOf (now (body .entry)))) ⌝ }
 {
-    let records = (body.len() / RECORD_SIZE) as u32;
+    let records = count(body);
     let mut w = no_window();
     let mut k = 0;
     while k < records {

@@ -10,6 +10,7 @@ use native.Mathlib.Omega.{arith}
 use lib.Dec.{eqb}
 use lib.ListN.{length}
 use denote.Ref.{RefT, now}
+use Rattle.machine.specs.State.{maxInstructions}
 use Rattle.record.specs.Part.{StartsAt}
 use Rattle.record.specs.Layout.{recordSize}
 use Rattle.record.specs.Refusal.{_unless_}
@@ -72,7 +73,7 @@ module _ (file : List ℕ) (trace : ℕ) where
       let few = fine .entries trace inside .0 in
       rw (e)
       (then-none _ _
-      (rw (eq-eqb (length (bodyAt file trace) % recordSize) 0 (omega arith), le-leb (length (bodyAt file trace) / recordSize) 4096 (omega arith)))
+      (rw (eq-eqb (length (bodyAt file trace) % recordSize) 0 (omega arith), le-leb (length (bodyAt file trace) / recordSize) maxInstructions (omega arith)))
       ∙ first-at (λ t. recordRefusal (bodyAt file t)) (traces file) (fine .records) trace inside)
 
 module _ (whole part : RefT (List ℕ)) (trace : ℕ) where

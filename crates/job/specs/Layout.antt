@@ -2,6 +2,7 @@
 use Prim.Native.Nat.{ℕ, zero, suc, _+_, _*_}
 use mathlib.Core.List.{List}
 use lib.ListN.{take, drop}
+use Rattle.machine.specs.State.{maxInstructions}
 use Rattle.little_endian.specs.Numbers.{half, word}
 use Rattle.record.specs.Layout.{recordSize}
 
@@ -23,7 +24,7 @@ abbrev pub countInEntry : ℕ
 countInEntry = 4
 
 abbrev pub maxCount : ℕ
-maxCount = 4096
+maxCount = maxInstructions
 
 abbrev pub entryAt : ℕ → ℕ
 entryAt t = headerSize + entrySize * t

@@ -16,11 +16,11 @@ use crate::refusal::TOO_MANY_TRACES;
 use crate::refusal::TOO_SHORT;
 use crate::refusal::WRONG_END;
 use crate::refusal::WRONG_OFFSET;
+use acceptance::record_refusal;
 use little_endian::half;
 use little_endian::word;
 use machine::State;
 use record::layout::RECORD_SIZE;
-use record::record_refusal;
 use record::refusal::OUT_OF_RANGE;
 
 // The header is the count of traces; an entry is an offset and a count of instructions.

@@ -1,8 +1,9 @@
-// Numbers of one, two and four bytes, the low byte first.
+// Numbers of one, two and four bytes, the low byte first: read from bytes, and written into an output.
 ghost use mathlib.Core.Path.{_≡_};
-ghost use Prim.Native.Nat.{_+_, _<_, _^_};
-ghost use lib.ListN.{length};
-ghost use Rattle.little_endian.specs.Numbers.{byte, half, word};
+ghost use Prim.Native.Nat.{_+_, _<_, _≤_, _^_};
+ghost use mathlib.Core.List.{_++_};
+ghost use lib.ListN.{length, take, drop};
+ghost use Rattle.little_endian.specs.Numbers.{byte, half, word, halfBytes, wordBytes};
 
 fn wide(x: u8) -> u32
     ensures { λ r. ⌜ (r ≡ x) × (r < 256) ⌝ }
@@ -50,4 +51,23 @@ pub fn word(bytes: &[u8], at: u32) -> u32
         + 256 * byte(bytes, i + 1)
         + 65536 * byte(bytes, i + 2)
         + 16777216 * byte(bytes, i + 3)
+}
+
+// The same two bytes and four bytes written; the other bytes of the output stay.
+pub fn put_half(out: &mut [u8], at: usize, n: u32)
+    requires { ⌜ (at + 2 ≤ length (now out)) × (n < 65536) ⌝ }
+    ensures { λ _. ⌜ now (out .exit) ≡ take at (now (out .entry)) ++ halfBytes n ++ drop (at + 2) (now (out .entry)) ⌝ }
+{
+    out[at] = (n % 256) as u8;
+    out[at + 1] = (n / 256) as u8;
+}
+
+pub fn put_word(out: &mut [u8], at: usize, n: u32)
+    requires { ⌜ at + 4 ≤ length (now out) ⌝ }
+    ensures { λ _. ⌜ now (out .exit) ≡ take at (now (out .entry)) ++ wordBytes n ++ drop (at + 4) (now (out .entry)) ⌝ }
+{
+    out[at] = (n % 256) as u8;
+    out[at + 1] = (n / 256 % 256) as u8;
+    out[at + 2] = (n / 65536 % 256) as u8;
+    out[at + 3] = (n / 16777216) as u8;
 }

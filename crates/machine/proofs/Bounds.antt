@@ -10,6 +10,7 @@ use Rattle.machine.specs.Test.{_and_}
 use Rattle.machine.specs.Instruction.{Instruction, Trace, instruction}
 use Rattle.machine.specs.Rules.{misses}
 use Rattle.machine.specs.Time.{bound}
+use Rattle.machine.specs.State.{maxInstructions}
 use Rattle.machine.proofs.Numbers.{by-age, sum, sum-mono}
 use Rattle.machine.proofs.Schedule.{Behaviour, Together, early, late, together, enters, done, starts, least}
 use Rattle.machine.proofs.Doing.{Does, holding, loading, storing, nothing, does}
@@ -126,5 +127,5 @@ each-limited (i ∷ trace) h =
     let q : Limited i = h 0 (omega arith) in
     omega arith
 
-pub bound-limited : (trace : Trace) → length trace ≤ 4096 → ((i : ℕ) → i < length trace → Limited (instruction trace i)) → bound trace ≤ 537931776
+pub bound-limited : (trace : Trace) → length trace ≤ maxInstructions → ((i : ℕ) → i < length trace → Limited (instruction trace i)) → bound trace ≤ 537931776
 bound-limited trace l h = let p = each-limited trace h in omega arith

@@ -1,4 +1,5 @@
--- The pipeline state against the rules: the place that it gives each instruction, the state that places give, and which states are orderly.
+-- The pipeline state against the rules: the place that it gives each instruction, the state that places give, and which states are orderly. The
+-- limit on a trace belongs to the state, as the starting state does.
 -- Document 01, "One cycle", its last paragraph.
 use Prim.Native.Nat.{ℕ, zero, suc, _+_, _≤_, _<_}
 use mathlib.Core.Bool.{Bool, true, false, not, cond}
@@ -10,6 +11,10 @@ use Rattle.machine.specs.Instruction.{Trace, instruction}
 use Rattle.machine.specs.Rules.{Stage, pre, IF, ID, EX, MEM, ST, WB, post, same, Place, Places, isStore, entry}
 use Rattle.machine.specs.declared.Slot.{Slot}
 use Rattle.machine.specs.declared.State.{State}
+
+-- "A trace is accepted when its body has at most 4,096 records"
+abbrev pub maxInstructions : ℕ
+maxInstructions = 4096
 
 -- "empty slots carry index 0 and count 0"
 abbrev pub emptySlot : Slot

@@ -3,7 +3,7 @@ use mathlib.Core.List.{List, map}
 use mathlib.Core.Path.{_≡_}
 use lib.ListN.{take, drop}
 use Rattle.machine.specs.Cases.{chartOfD}
-use Rattle.record.specs.Cases.{bytesOfD}
+use Rattle.encoding.specs.Cases.{bytesOfD}
 use Rattle.pipeline.specs.Step.{stepAnswer}
 use Rattle.pipeline.specs.declared.stepping.Stepped.{Stepped}
 

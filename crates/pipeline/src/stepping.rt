@@ -1,29 +1,18 @@
 // Step: the state one cycle on.
 ghost use mathlib.Core.Path.{_≡_};
-ghost use Prim.Native.Nat.{_≤_};
-ghost use lib.ListN.{length};
-ghost use Rattle.record.specs.Body.{traceOf, lengthRefusal};
 ghost use Rattle.pipeline.specs.Step.{stepAnswer};
 use crate::refusal::NOT_ORDERLY;
+use acceptance::settled_refusal;
 use cycle::cycle;
 use machine::State;
 use orderly::orderly;
-use record::layout::RECORD_SIZE;
-use record::settled_refusal;
+use record::count;
 use standing::read_stages;
 
 #[repr(C)]
 pub struct Stepped {
     pub refusal: u32,
     pub state: State,
-}
-
-// How many instructions a body of lawful length holds.
-fn records(body: &[u8]) -> u32
-    requires { ⌜ lengthRefusal (now body) ≡ 0 ⌝ }
-    ensures { λ r. ⌜ (length (traceOf (now (body .entry))) ≡ r) × (r ≤ 4096) ⌝ }
-{
-    (body.len() / RECORD_SIZE) as u32
 }
 
 // The refusals in their order, else the cycle; a refusal gives the given state back.
@@ -37,7 +26,7 @@ pub fn step(body: &[u8], s: State) -> Stepped
             state: s,
         };
     }
-    let n = records(body);
+    let n = count(body);
     let w = read_stages(body, s);
     if orderly(n, s, w) {
         return Stepped {

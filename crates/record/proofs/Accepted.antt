@@ -7,6 +7,7 @@ use native.Mathlib.Omega.{arith}
 use borrow.Author.Tests.{eqb-true, eqb-false, leb-true, eq-eqb, le-leb}
 use lib.Dec.{leb, eqb}
 use lib.ListN.{length}
+use Rattle.machine.specs.State.{maxInstructions}
 use Rattle.little_endian.specs.Numbers.{byte}
 use Rattle.record.specs.Layout.{recordSize, flagsAt}
 use Rattle.record.specs.Rules.{hasUnknown}
@@ -21,11 +22,11 @@ and-true false b e = (e, cc)
 
 -- from the length alone
 module _ (body : List ℕ) (lawful : lengthRefusal body ≡ 0) where
-  lengths : (eqb (length body % recordSize) 0 ≡ true) × (leb (records body) 4096 ≡ true)
+  lengths : (eqb (length body % recordSize) 0 ≡ true) × (leb (records body) maxInstructions ≡ true)
   unfolding lengthRefusal
   lengths = and-true _ _ (unless-passed _ _ lawful)
 
-  pub few-by-length : records body ≤ 4096
+  pub few-by-length : records body ≤ maxInstructions
   few-by-length = leb-true _ _ (lengths .1)
 
   pub whole-by-length : length body ≡ records body * recordSize
@@ -35,12 +36,12 @@ module _ (body : List ℕ) where
   -- what suffices for a body to be accepted; below, what follows from it
   pub accepted-of
       : length body ≡ records body * recordSize →
-      records body ≤ 4096 →
+      records body ≤ maxInstructions →
       ((k : ℕ) → k < records body → breaksAt body k ≡ false) →
       bodyRefusal body ≡ 0
   unfolding bodyRefusal lengthRefusal recordRefusal
   accepted-of whole few lawful =
-      then-none _ _ (sym (last-passes _ (rw (eq-eqb (length body % recordSize) 0 (omega arith), le-leb (records body) 4096 few))))
+      then-none _ _ (sym (last-passes _ (rw (eq-eqb (length body % recordSize) 0 (omega arith), le-leb (records body) maxInstructions few))))
       ∙ sym (last-passes _ (none-below _ _ lawful))
 
   pub settled-of : bodyRefusal body ≡ 0 → ((k : ℕ) → k < records body → unknownAt body k ≡ false) → settledRefusal body ≡ 0
@@ -55,7 +56,7 @@ module _ (body : List ℕ) where
     pub lawful-length : lengthRefusal body ≡ 0
     lawful-length = parts .0
 
-    pub few-records : records body ≤ 4096
+    pub few-records : records body ≤ maxInstructions
     few-records = few-by-length body lawful-length
 
     pub whole-records : length body ≡ records body * recordSize

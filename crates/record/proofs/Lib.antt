@@ -1,14 +1,8 @@
 pub mod Alike
 pub mod Accepted
-pub mod Cases
-pub mod Encoding
-pub mod Fits
 pub mod Instructions
-pub mod Limits
-pub mod Numbers
+pub mod Lawful
 pub mod Refusals
-pub mod RoundTrip
 pub mod Scan
-pub mod SettledBody
-pub mod SettledRecord
 pub mod Within
+pub mod Written

@@ -1,16 +1,16 @@
--- The body: its records, the trace that it stands for, the bytes of a trace, and the refusals that every call shares.
+-- The body: its records, the trace that it stands for, and the refusals that every call shares.
 use Prim.Native.Nat.{ℕ, zero, suc, _+_, _*_, _/_, _%_, _<_}
 use mathlib.Core.Bool.{Bool, true, false, not, _&&_, cond}
 use mathlib.Core.List.{List, [], _∷_, _++_}
 use lib.Dec.{ltb, leb, eqb}
-use lib.ListN.{length}
+use lib.ListN.{length, take, drop}
 use Rattle.machine.specs.Test.{every, none}
-use Rattle.machine.specs.Instruction.{Flag, Instruction, Trace}
-use Rattle.machine.specs.Time.{settle}
+use Rattle.machine.specs.Instruction.{Trace}
+use Rattle.machine.specs.State.{maxInstructions}
 use Rattle.record.specs.Refusal.{_then_, _unless_, brokenRecord, outOfRange, wrongLength, unknownFlag}
 use Rattle.little_endian.specs.Numbers.{byte}
-use Rattle.record.specs.Layout.{recordSize, flagsAt, fieldsFrom}
-use Rattle.record.specs.Rules.{breaksRules, hasUnknown, kindNumber, flagNumber, instructionOf}
+use Rattle.record.specs.Layout.{recordSize, flagsAt, fieldsFrom, recordBytes}
+use Rattle.record.specs.Rules.{breaksRules, hasUnknown, instructionOf}
 use Rattle.record.specs.declared.layout.Fields.{Fields}
 use Rattle.record.specs.declared.layout.Read.{Read}
 
@@ -32,6 +32,10 @@ breaksAt body k = breaksRules (fieldsAt body k) (byte body (k * recordSize + fla
 unfoldable pub unknownAt : List ℕ → ℕ → Bool
 unknownAt body k = hasUnknown (fieldsAt body k)
 
+-- the body with other fields in record k
+unfoldable pub withRecord : List ℕ → ℕ → Fields → List ℕ
+withRecord body k f = take (k * recordSize) body ++ recordBytes f ++ drop (k * recordSize + recordSize) body
+
 -- f 0, f 1, .. f (n - 1)
 module _ {A : Type 0} where
   unfoldable pub firsts : (ℕ → A) → ℕ → List A
@@ -42,32 +46,9 @@ module _ {A : Type 0} where
 unfoldable pub traceOf : List ℕ → Trace
 traceOf body = firsts (λ k. instructionOf (fieldsAt body k)) (records body)
 
--- "Little endian": a number below 65,536 as two bytes
-abbrev pub halfBytes : ℕ → List ℕ
-halfBytes n = n % 256 ∷ n / 256 ∷ []
-
--- the ten bytes of an instruction, and the body of a trace
-unfoldable pub recordOf : Instruction → List ℕ
-recordOf i =
-    kindNumber (i .kind)
-    ∷ (flagNumber (i .fetch) + 4 * flagNumber (i .access))
-    ∷ i .source1
-    ∷ i .source2
-    ∷ i .target
-    ∷ i .executionLatency
-    ∷ halfBytes (i .fetchLatency) ++ halfBytes (i .dataLatency)
-
-unfoldable pub bodyOf : Trace → List ℕ
-bodyOf [] = []
-bodyOf (i ∷ trace) = recordOf i ++ bodyOf trace
-
--- the settling in which every unknown flag becomes the same flag, as a body
-unfoldable pub settledBody : Flag → List ℕ → List ℕ
-settledBody to body = bodyOf (settle to (traceOf body))
-
 -- "10 length not ten times a number up to 4,096"
 unfoldable pub lengthRefusal : List ℕ → ℕ
-lengthRefusal body = wrongLength unless (eqb (length body % recordSize) 0 && leb (records body) 4096)
+lengthRefusal body = wrongLength unless (eqb (length body % recordSize) 0 && leb (records body) maxInstructions)
 
 -- "8": a record breaks its rules
 unfoldable pub recordRefusal : List ℕ → ℕ

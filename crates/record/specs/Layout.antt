@@ -1,10 +1,7 @@
 -- The instruction record, byte by byte: document 01, "Job file and instruction record".
-use Prim.Native.Nat.{ℕ, _+_, _*_, _/_, _%_}
-use mathlib.Core.Bool.{Bool, true, false, not}
-use mathlib.Core.List.{List, [], _∷_}
-use lib.Dec.{ltb, eqb}
-use Rattle.machine.specs.Test.{_and_, _or_}
-use Rattle.little_endian.specs.Numbers.{byte, half}
+use Prim.Native.Nat.{ℕ, _+_, _*_, _/_, _%_, _<_}
+use mathlib.Core.List.{List, _∷_, _++_}
+use Rattle.little_endian.specs.Numbers.{byte, half, halfBytes}
 use Rattle.record.specs.declared.layout.Fields.{Fields}
 
 -- "A body holds ten bytes for each instruction."
@@ -51,3 +48,26 @@ fieldsFrom bytes at =
       «fetch_latency» = half bytes (at + fetchLatencyAt);
       «data_latency» = half bytes (at + dataLatencyAt);
     }
+
+-- The same the other way: the bytes of a record with these fields
+unfoldable pub recordBytes : Fields → List ℕ
+recordBytes f =
+    f .kind
+    ∷ (f .fetch + 4 * f .access)
+    ∷ f .source1
+    ∷ f .source2
+    ∷ f .target
+    ∷ f .execution
+    ∷ halfBytes (f .«fetch_latency») ++ halfBytes (f .«data_latency»)
+
+-- each field fits its place: a byte, two bits for a flag, two bytes for a latency
+pub record Fits (f : Fields) : Type 0 where
+  pub kind : f .kind < 256
+  pub fetch : f .fetch < 4
+  pub access : f .access < 4
+  pub source1 : f .source1 < 256
+  pub source2 : f .source2 < 256
+  pub target : f .target < 256
+  pub execution : f .execution < 256
+  pub fetchLatency : f .«fetch_latency» < 65536
+  pub dataLatency : f .«data_latency» < 65536

@@ -2,6 +2,5 @@ pub mod Refusal
 pub mod Layout
 pub mod Rules
 pub mod Body
-pub mod Cases
 pub mod Claims
 pub mod Part

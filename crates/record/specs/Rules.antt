@@ -1,5 +1,5 @@
--- Which records are within the rules, which have an unknown flag, and the instruction that a record stands for: document 01, "Job file and
--- instruction record".
+-- Which records are within the rules, which have an unknown flag, and instructions as fields, both ways: document 01, "Job file and instruction
+-- record".
 use Prim.Native.Nat.{ℕ}
 use mathlib.Core.Bool.{Bool, true, false, not, cond, _||_, _&&_}
 use lib.Dec.{ltb, eqb}
@@ -78,4 +78,19 @@ instructionOf f =
       executionLatency = f .execution;
       fetchLatency = f .«fetch_latency»;
       dataLatency = f .«data_latency»;
+    }
+
+-- the fields of an instruction's record
+unfoldable pub fieldsOf : Instruction → Fields
+fieldsOf i =
+    record {
+      kind = kindNumber (i .kind);
+      fetch = flagNumber (i .fetch);
+      access = flagNumber (i .access);
+      source1 = i .source1;
+      source2 = i .source2;
+      target = i .target;
+      execution = i .executionLatency;
+      «fetch_latency» = i .fetchLatency;
+      «data_latency» = i .dataLatency;
     }

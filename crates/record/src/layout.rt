@@ -2,8 +2,9 @@
 ghost use mathlib.Core.Path.{_≡_};
 ghost use Prim.Native.Nat.{_+_, _≤_};
 ghost use lib.ListN.{length};
+ghost use Rattle.machine.specs.State.{maxInstructions};
 ghost use Rattle.record.specs.Layout.{recordSize, fieldsFrom};
-ghost use Rattle.record.specs.Body.{noFields, readAnswer};
+ghost use Rattle.record.specs.Body.{records, noFields, readAnswer};
 use crate::refusal::OUT_OF_RANGE;
 use little_endian::byte_at;
 use little_endian::half_at;
@@ -48,7 +49,16 @@ pub struct Read {
     pub fields: Fields,
 }
 
-pub(crate) fn fields_from(bytes: &[u8], at: usize) -> Fields
+// How many records a body has, for one whose length was checked.
+pub fn count(body: &[u8]) -> u32
+    requires { ⌜ records (now body) ≤ maxInstructions ⌝ }
+    ensures { λ r. ⌜ r ≡ records (now (body .entry)) ⌝ }
+{
+    (body.len() / RECORD_SIZE) as u32
+}
+
+// The fields of the record that starts at a byte.
+pub fn fields_from(bytes: &[u8], at: usize) -> Fields
     requires { ⌜ at + recordSize ≤ length (now bytes) ⌝ }
     ensures { λ r. ⌜ r ≡ fieldsFrom (now (bytes .entry)) at ⌝ }
 {

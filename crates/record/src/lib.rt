@@ -1,14 +1,12 @@
-// The instruction record and the body: reading, the record rules, and the checks that every call
-// shares.
-pub mod body;
+// The instruction record as bytes: where each field stands, how many records a body has, reading one
+// and writing one.
 pub mod layout;
 pub mod refusal;
+pub mod writing;
 
-pub use body::body_refusal;
-pub use body::length_refusal;
-pub use body::record_refusal;
-pub use body::settled_refusal;
 pub use layout::Fields;
 pub use layout::Read;
+pub use layout::count;
 pub use layout::fields_at;
 pub use layout::no_fields;
+pub use writing::put_record;

@@ -6,7 +6,7 @@ use native.Mathlib.Omega.{arith}
 use lib.ListN.{length, length-append}
 use Rattle.record.specs.Body.{traceOf}
 use Rattle.record.proofs.Accepted.{few-records}
-use Rattle.record.proofs.Encoding.{length-traceOf}
+use Rattle.record.proofs.Instructions.{length-traceOf}
 use Rattle.job.specs.Layout.{traces}
 use Rattle.job.specs.Open.{fileRefusal, openBody}
 use Rattle.job.proofs.Accepted.{file-fine, open-accepted}

@@ -9,8 +9,8 @@ use crate::deadlines::deadline_at;
 use job::cut;
 use job::locate;
 use record::Fields;
+use record::count;
 use record::fields_at;
-use record::layout::RECORD_SIZE;
 use timing::best_worst;
 
 pub(crate) struct Line {
@@ -39,7 +39,7 @@ fn unknown_flags(body: &[u8]) -> u32
     requires { ⌜ bodyRefusal (now body) ≡ 0 ⌝ }
     ensures { λ r. ⌜ r ≡ unknownFlags (traceOf (now (body .entry))) ⌝ }
 {
-    let records = (body.len() / RECORD_SIZE) as u32;
+    let records = count(body);
     let mut unknown = 0;
     let mut k = 0;
     while k < records {
@@ -58,7 +58,7 @@ fn line_of(body: &[u8], number: u32, deadline: u32) -> Line
     let unknown = unknown_flags(body);
     Line {
         number,
-        instructions: (body.len() / RECORD_SIZE) as u32,
+        instructions: count(body),
         unknown,
         best: times.best,
         worst: times.worst,

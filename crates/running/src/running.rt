@@ -5,10 +5,10 @@ ghost use Rattle.machine.specs.Time.{settle};
 ghost use Rattle.record.specs.Rules.{flagOf};
 ghost use Rattle.record.specs.Body.{traceOf, bodyRefusal};
 ghost use Rattle.running.specs.Run.{ranFor, runAnswer};
+use acceptance::settled_refusal;
 use decode::HIT;
 use machine::State;
-use record::layout::RECORD_SIZE;
-use record::settled_refusal;
+use record::count;
 use seats::SEATS;
 use seats::seated;
 use under_way::pass;
@@ -39,7 +39,7 @@ pub fn run_settled(body: &[u8], to: u32, limit: u32) -> Ran
     let mut seats = [0u32; SEATS];
     let fetched = pass(body, to, limit, &mut seats);
     let state = seated(&seats, fetched.count);
-    if (fetched.count as usize) < body.len() / RECORD_SIZE {
+    if fetched.count < count(body) {
         return Ran {
             refusal: 0,
             state,

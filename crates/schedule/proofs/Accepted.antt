@@ -22,7 +22,7 @@ use Rattle.record.specs.declared.layout.Read.{Read}
 use Rattle.record.specs.Rules.{kindOf, flagOf, instructionOf}
 use Rattle.record.specs.Body.{Bytes, records, fieldsAt, traceOf, bodyRefusal, readAnswer}
 use Rattle.record.proofs.Accepted.{few-records, fields-within}
-use Rattle.record.proofs.Encoding.{length-traceOf, instruction-traceOf}
+use Rattle.record.proofs.Instructions.{length-traceOf, instruction-traceOf}
 use Rattle.record.proofs.Within.{OneOf, Within}
 use Rattle.schedule.specs.Code.{maxTime, FinishWithin, Room}
 use Rattle.decode.specs.Access.{AccessLawful}

@@ -11,7 +11,7 @@ use Rattle.record.specs.declared.layout.Fields.{Fields}
 use Rattle.record.specs.Rules.{flagOf, instructionOf}
 use Rattle.record.specs.Body.{Bytes, records, fieldsAt, traceOf, settledRefusal}
 use Rattle.record.proofs.Accepted.{flags-known}
-use Rattle.record.proofs.Encoding.{length-traceOf, instruction-traceOf}
+use Rattle.record.proofs.Instructions.{length-traceOf, instruction-traceOf}
 
 module _ (to : Flag) where
   pub length-settle : (trace : Trace) → length (settle to trace) ≡ length trace

@@ -46,7 +46,7 @@ pub extern "C" fn sic_write(counts: &[u16], records: &[u8], out: &mut [u8]) -> W
 pub extern "C" fn sic_check(body: &[u8]) -> u32
     ensures { λ r. ⌜ r ≡ bodyRefusal (now (body .entry)) ⌝ }
 {
-    record::body_refusal(body)
+    acceptance::body_refusal(body)
 }
 
 // The fields of instruction k, as the bytes stand.

@@ -10,7 +10,7 @@ use lib.Dec.{ltb}
 use lib.ListN.{length, take, drop, length-append, length-drop, take-append-drop}
 use lib.Seq.{length-take-le}
 use Rattle.machine.proofs.Connectives.{Value, passed, failed, value}
-use Rattle.text.proofs.Placed.{put-both}
+use Rattle.little_endian.proofs.Placed.{put-both}
 use Rattle.text.specs.Text.{put, Wrote, decimalWithin, decimal}
 
 pub length-put : (at : ℕ) (text out : List ℕ) → at + length text ≤ length out → length (put at text out) ≡ length out

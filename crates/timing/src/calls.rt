@@ -7,11 +7,11 @@ ghost use Rattle.timing.specs.Answers.{
   marginAnswer,
   alikeAnswer,
 };
+use acceptance::body_refusal;
+use acceptance::settled_refusal;
 use decode::HIT;
 use decode::MISS;
 use finishing::finish_settled;
-use record::body_refusal;
-use record::settled_refusal;
 
 #[repr(C)]
 pub struct Finished {

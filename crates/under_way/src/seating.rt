@@ -7,7 +7,7 @@ ghost use Rattle.machine.specs.Time.{settle};
 ghost use Rattle.record.specs.Rules.{flagOf};
 ghost use Rattle.record.specs.Body.{traceOf, bodyRefusal};
 ghost use Rattle.under_way.specs.Passing.{Stopped};
-use record::layout::RECORD_SIZE;
+use record::count;
 use schedule::no_window;
 use schedule::slide;
 use schedule::times_from;
@@ -27,7 +27,7 @@ pub fn pass(body: &[u8], to: u32, limit: u32, seats: &mut [u32; SEATS]) -> Fetch
     requires { ⌜ (bodyRefusal (now body) ≡ 0) × (now seats ≡ replicate 13 0) ⌝ }
     ensures { λ r. ⌜ Stopped (settle (flagOf to) (traceOf (now (body .entry)))) limit r (now (seats .exit)) ⌝ }
 {
-    let records = (body.len() / RECORD_SIZE) as u32;
+    let records = count(body);
     let mut w = no_window();
     let mut k = 0;
     while k < records {

@@ -3,8 +3,8 @@ ghost use mathlib.Core.Path.{_≡_};
 ghost use Rattle.record.specs.Body.{bodyRefusal, readAnswer};
 ghost use Rattle.record.specs.Part.{StartsAt};
 ghost use Rattle.views.specs.View.{viewBody};
+use acceptance::body_refusal;
 use record::Read;
-use record::body_refusal;
 use record::fields_at;
 
 // A refusal's number and an empty part, or 0 and the body.

@@ -3,9 +3,10 @@ use mathlib.Core.Path.{refl}
 use Rattle.machine.specs.Test.{_and_, every, none}
 use Rattle.machine.specs.Cases.{cases, caseD}
 use Rattle.record.specs.Refusal.{_then_, _unless_}
-use Rattle.record.specs.Layout.{fieldsFrom}
-use Rattle.record.specs.Rules.{breaksRules, kindOf, flagOf, instructionOf}
-use Rattle.record.specs.Body.{breaksAt, firsts, traceOf, recordOf, bodyOf, recordRefusal}
+use Rattle.record.specs.Layout.{fieldsFrom, recordBytes}
+use Rattle.record.specs.Rules.{breaksRules, kindOf, flagOf, instructionOf, fieldsOf}
+use Rattle.record.specs.Body.{breaksAt, firsts, traceOf, recordRefusal}
+use Rattle.encoding.specs.Encoding.{recordOf, bodyOf}
 use Rattle.job.specs.Refusal.{firstRefusal}
 use Rattle.job.specs.Layout.{maxFile, before, bodyStart}
 use Rattle.job.specs.Open.{entryRefusal, entriesRefusal, tableRefusal, tracesRefusal, fileRefusal, openRefusal, openBody}
@@ -15,7 +16,7 @@ use Rattle.writer.specs.Cases.{traceList, FilesAccepted}
 use Rattle.writer.proofs.Traces.{traces-round-trip}
 
 pub files-accepted : FilesAccepted
-unfolding _and_ every none cases caseD _then_ _unless_ fieldsFrom breaksRules kindOf flagOf instructionOf breaksAt firsts traceOf recordOf bodyOf recordRefusal firstRefusal before bodyStart entryRefusal entriesRefusal tableRefusal tracesRefusal fileRefusal openRefusal openBody fileLength countsRefusal writeRefusal entryBytes tableOf fileOf joined
+unfolding _and_ every none cases caseD _then_ _unless_ fieldsFrom breaksRules kindOf flagOf instructionOf breaksAt firsts traceOf recordOf recordBytes fieldsOf bodyOf recordRefusal firstRefusal before bodyStart entryRefusal entriesRefusal tableRefusal tracesRefusal fileRefusal openRefusal openBody fileLength countsRefusal writeRefusal entryBytes tableOf fileOf joined
 files-accepted =
     record {
       accepted = refl;

@@ -7,12 +7,11 @@ use native.Mathlib.Nat.{le-of-suc-le-suc, not-suc-le-zero, eq-or-lt-of-le, add-a
 use native.Mathlib.Omega.{arith}
 use lib.ListN.{length, take, drop, length-append, List·getD-append}
 use lib.Seq.{getD-append-add, drop-append-add}
-use Rattle.little_endian.specs.Numbers.{byte, half, word}
+use Rattle.little_endian.specs.Numbers.{byte, half, word, halfBytes, wordBytes}
 use Rattle.record.specs.Layout.{recordSize}
-use Rattle.record.specs.Body.{halfBytes}
-use Rattle.record.proofs.Numbers.{half-of-bytes}
+use Rattle.little_endian.proofs.Halves.{half-of-bytes}
 use Rattle.job.specs.Layout.{headerSize, entrySize, countInEntry, entryAt, traces, countAt, offsetAt, bodyStart, recordsOf}
-use Rattle.writer.specs.Write.{count, wordBytes, entryBytes, tableOf, fileOf}
+use Rattle.writer.specs.Write.{count, entryBytes, tableOf, fileOf}
 use Rattle.writer.proofs.WrittenTable.{table-suc, length-table}
 
 length-entry : (counts : List ℕ) (t : ℕ) → length (entryBytes counts t) ≡ entrySize

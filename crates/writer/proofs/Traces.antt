@@ -12,9 +12,11 @@ use lib.Seq.{getD-take, getD-drop, take-all, take-at, take-add, drop-drop, drop-
 use Rattle.machine.specs.Instruction.{Trace}
 use Rattle.little_endian.specs.Numbers.{byte}
 use Rattle.record.specs.Layout.{recordSize}
-use Rattle.record.specs.Body.{Bytes, records, firsts, traceOf, bodyOf}
-use Rattle.record.proofs.Encoding.{length-firsts, getD-firsts, length-bodyOf}
-use Rattle.record.proofs.RoundTrip.{accepted-is-encoded, trace-again}
+use Rattle.record.specs.Body.{Bytes, records, firsts, traceOf}
+use Rattle.encoding.specs.Encoding.{bodyOf}
+use Rattle.record.proofs.Instructions.{length-firsts, getD-firsts}
+use Rattle.encoding.proofs.Encoding.{length-bodyOf}
+use Rattle.encoding.proofs.RoundTrip.{accepted-is-encoded, trace-again}
 use Rattle.job.specs.Layout.{traces, countAt, entryAt, before, startAt, bodyAt, recordsOf}
 use Rattle.job.specs.Open.{fileRefusal, openBody}
 use Rattle.job.proofs.Accepted.{FileFine, file-fine, open-accepted}

@@ -9,13 +9,14 @@ use lib.Dec.{ltb}
 use lib.ListN.{length, take, drop, length-append}
 use Rattle.machine.specs.Test.{none}
 use Rattle.record.specs.Layout.{recordSize}
-use Rattle.record.specs.Body.{halfBytes, recordRefusal}
+use Rattle.little_endian.specs.Numbers.{halfBytes}
+use Rattle.record.specs.Body.{recordRefusal}
 use Rattle.record.proofs.Refusals.{then-first, then-second, unless-passed}
 use Rattle.machine.proofs.Connectives.{none-at}
 use Rattle.job.specs.Layout.{headerSize, maxTraces, maxCount, maxFile, entryAt, bodyStart}
 use Rattle.writer.specs.Write.{count, sum, fileLength, countsRefusal, writeRefusal, tableOf, fileOf, writeAnswer, writeOutput}
 use Rattle.writer.specs.declared.writing.Written.{Written}
-use Rattle.text.proofs.Placed.{put-next}
+use Rattle.little_endian.proofs.Placed.{put-next}
 use Rattle.job.proofs.Starts.{start-before}
 use Rattle.writer.proofs.WrittenTable.{length-table}
 

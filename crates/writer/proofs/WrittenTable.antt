@@ -6,10 +6,10 @@ use native.Mathlib.Numerals.{add-one}
 use native.Mathlib.Omega.{arith}
 use lib.ListN.{length, take, drop, length-append, take-append-drop}
 use lib.Seq.{length-take-le}
-use Rattle.record.specs.Body.{halfBytes}
+use Rattle.little_endian.specs.Numbers.{halfBytes, wordBytes}
 use Rattle.job.specs.Layout.{headerSize, entrySize, entryAt, bodyStart}
-use Rattle.writer.specs.Write.{count, wordBytes, entryBytes, tableOf}
-use Rattle.text.proofs.Placed.{put-next}
+use Rattle.writer.specs.Write.{count, entryBytes, tableOf}
+use Rattle.little_endian.proofs.Placed.{put-next}
 
 pub table-zero : (counts : List ℕ) → tableOf counts 0 ≡ []
 unfolding tableOf

@@ -5,8 +5,8 @@ use mathlib.Core.Path.{_≡_}
 use lib.ListN.{length}
 use Rattle.machine.specs.Instruction.{Trace}
 use Rattle.machine.specs.Cases.{cases, caseD}
-use Rattle.record.specs.Body.{bodyOf}
-use Rattle.record.specs.Cases.{bytesOfD}
+use Rattle.encoding.specs.Encoding.{bodyOf}
+use Rattle.encoding.specs.Cases.{bytesOfD}
 use Rattle.job.specs.Layout.{maxFile}
 use Rattle.job.specs.Open.{fileRefusal}
 use Rattle.writer.specs.Write.{fileOf, writeRefusal}

@@ -5,7 +5,8 @@ use mathlib.Core.Path.{_≡_}
 use lib.ListN.{length, take, drop}
 use Rattle.machine.specs.Instruction.{Trace}
 use Rattle.record.specs.Layout.{recordSize}
-use Rattle.record.specs.Body.{Bytes, records, firsts, traceOf, bodyOf}
+use Rattle.record.specs.Body.{Bytes, records, firsts, traceOf}
+use Rattle.encoding.specs.Encoding.{bodyOf}
 use Rattle.job.specs.Layout.{traces, countAt, before, recordsOf}
 use Rattle.job.specs.Open.{fileRefusal, openBody}
 use Rattle.writer.specs.Write.{count, fileOf, writeRefusal}

@@ -1,13 +1,14 @@
 -- What Write answers and what it leaves in the output: document 01, "What each call does and when it declines".
-use Prim.Native.Nat.{ℕ, zero, suc, _+_, _*_, _/_, _%_}
+use Prim.Native.Nat.{ℕ, zero, suc, _+_, _*_}
 use mathlib.Core.Bool.{cond}
-use mathlib.Core.List.{List, [], _∷_, _++_}
+use mathlib.Core.List.{List, [], _++_}
 use lib.Dec.{ltb, leb, eqb}
 use lib.ListN.{length, getD, drop}
 use Rattle.machine.specs.Test.{none}
 use Rattle.record.specs.Refusal.{_then_, _unless_}
 use Rattle.record.specs.Layout.{recordSize}
-use Rattle.record.specs.Body.{halfBytes, recordRefusal}
+use Rattle.little_endian.specs.Numbers.{halfBytes, wordBytes}
+use Rattle.record.specs.Body.{recordRefusal}
 use Rattle.job.specs.Refusal.{tooLong, tooManyTraces, largeCount, wrongRecords, shortOutput}
 use Rattle.job.specs.Layout.{maxTraces, maxCount, maxFile, entryAt, before, bodyStart}
 use Rattle.writer.specs.declared.writing.Written.{Written}
@@ -37,10 +38,6 @@ writeRefusal counts records room =
     then (tooLong unless leb (fileLength counts records) maxFile)
     then recordRefusal records
     then (shortOutput unless leb (fileLength counts records) room)
-
--- a number below 2 ^ 32 as four bytes, the low one first
-abbrev pub wordBytes : ℕ → List ℕ
-wordBytes n = n % 256 ∷ n / 256 % 256 ∷ n / 65536 % 256 ∷ n / 16777216 ∷ []
 
 -- an entry: "a four-byte offset from the file's start and a two-byte instruction count"
 unfoldable pub entryBytes : List ℕ → ℕ → List ℕ

@@ -4,18 +4,18 @@ ghost use Prim.Native.Nat.{_+_, _<_, _≤_};
 ghost use mathlib.Core.List.{_++_};
 ghost use lib.ListN.{length, take, drop};
 ghost use Rattle.record.specs.Refusal.{_unless_};
-ghost use Rattle.record.specs.Body.{halfBytes};
+ghost use Rattle.little_endian.specs.Numbers.{halfBytes, wordBytes};
 ghost use Rattle.job.specs.Layout.{entryAt, entrySize, headerSize, maxFile, maxTraces, bodyStart};
 ghost use Rattle.writer.specs.Write.{
   count,
   sum,
   countsRefusal,
   writeRefusal,
-  wordBytes,
   tableOf,
   writeAnswer,
   writeOutput,
 };
+use acceptance::record_refusal;
 use job::refusal::LARGE_COUNT;
 use job::refusal::SHORT_OUTPUT;
 use job::refusal::TOO_LONG;
@@ -26,9 +26,10 @@ use job::table::ENTRY_SIZE;
 use job::table::HEADER_SIZE;
 use job::table::MAX_TRACES;
 use job::table::RECORD_BYTES;
+use little_endian::put_half;
+use little_endian::put_word;
 use machine::State;
 use record::layout::RECORD_SIZE;
-use record::record_refusal;
 
 #[repr(C)]
 pub struct Written {
@@ -95,24 +96,6 @@ fn write_refusal(counts: &[u16], records: &[u8], room: usize) -> u32
         return SHORT_OUTPUT;
     }
     0
-}
-
-fn put_half(out: &mut [u8], at: usize, n: u32)
-    requires { ⌜ (at + 2 ≤ length (now out)) × (n < 65536) ⌝ }
-    ensures { λ _. ⌜ now (out .exit) ≡ take at (now (out .entry)) ++ halfBytes n ++ drop (at + 2) (now (out .entry)) ⌝ }
-{
-    out[at] = (n % 256) as u8;
-    out[at + 1] = (n / 256) as u8;
-}
-
-fn put_word(out: &mut [u8], at: usize, n: u32)
-    requires { ⌜ at + 4 ≤ length (now out) ⌝ }
-    ensures { λ _. ⌜ now (out .exit) ≡ take at (now (out .entry)) ++ wordBytes n ++ drop (at + 4) (now (out .entry)) ⌝ }
-{
-    out[at] = (n % 256) as u8;
-    out[at + 1] = (n / 256 % 256) as u8;
-    out[at + 2] = (n / 65536 % 256) as u8;
-    out[at + 3] = (n / 16777216) as u8;
 }
 
 fn put_entry(out: &mut [u8], at: usize, offset: u32, n: u32)

@@ -38,10 +38,10 @@ use denote.Triple.Walked.{says, Stays, stay-none-slice, walkOf, goes-none-slice,
 use denote.Exit.{yes}
 use denote.Triple.Clauses.{ensured, lasts}
 use Rattle.record.specs.Body.{bodyRefusal}
-use Rattle.record.proofs.body_refusal as refusal
-use Rattle.record.proofs.body_refusal.Symbol as refusal-def
-use Rattle.record.proofs.body_refusal.Symbol.{name as #record·body-refusal}
-use Rattle.record.proofs.body_refusal.Met as refusal-thm
+use Rattle.acceptance.proofs.body_refusal as refusal
+use Rattle.acceptance.proofs.body_refusal.Symbol as refusal-def
+use Rattle.acceptance.proofs.body_refusal.Symbol.{name as #acceptance·body-refusal}
+use Rattle.acceptance.proofs.body_refusal.Met as refusal-thm
 use Rattle.record.specs.Part.{StartsAt}
 use Rattle.views.specs.View.{viewBody}
 use Rattle.views.specs.declared.View.{View}
@@ -138,7 +138,7 @@ module _ {M : Type 1} (𝓤 : URA M) (H : Heap 𝓤) (A : Atoms 𝓤) (W : Given
       -- [what the body owns]: with the facts of the refusal it is what the result owns
       nothing ! $ move ! (1 ∷ 0 ∷ []) $ fjoin ! $ owned ! u32 (Is u32) (uint-makes 𝓤 H A W w32) n _ (refl, fits) $ fjoin ! $ by ! (own-shut 𝓤 H A W (T.the-type α) (T′.the-laws α) (n, (b, tt)))
 
-  module _ (C : Calls 𝓤 H) (Λ : Loops 𝓤 H) (fm : FmC 𝓤 H (W .laws) C) (known-refusal : Triple 𝓤 (C #record·body-refusal) (Refusal 𝓤 H A mem run)) (known-kept : Triple 𝓤 (C #views·kept) (Keeps 𝓤 H A mem run)) where
+  module _ (C : Calls 𝓤 H) (Λ : Loops 𝓤 H) (fm : FmC 𝓤 H (W .laws) C) (known-refusal : Triple 𝓤 (C #acceptance·body-refusal) (Refusal 𝓤 H A mem run)) (known-kept : Triple 𝓤 (C #views·kept) (Keeps 𝓤 H A mem run)) where
     walk : Is Slice s (v s ∷ []) → ent 𝓤 (onEntry 𝓤 H A making.signature (κ, tt) (q, tt) (s, tt) at) (WpFn 𝓤 H C Λ code.function (v s ∷ []) Post)
     walk p =
         qed W (raw (onEntry 𝓤 H A making.signature (κ, tt) (q, tt) (s, tt) at) ∷ []) ∵ enter ! C Λ code.function (v s ∷ []) _ $
@@ -169,13 +169,13 @@ module _ {M : Type 1} (𝓤 : URA M) (H : Heap 𝓤) (A : Atoms 𝓤) (W : Given
         by ! (exits n b (is .1) (e, e′ .0, e′ .1))))))))))))))
 
 module _ {M : Type 1} (𝓤 : URA M) (H : Heap 𝓤) (A : Atoms 𝓤) (W : Given 𝓤 H A) (mem : Memory → SProp 𝓤) (run : Routine → Fun 𝓤) where
-  make-view-walks : (C : Calls 𝓤 H) (Λ : Loops 𝓤 H) → FmC 𝓤 H (W .laws) C → Triple 𝓤 (C #record·body-refusal) (Refusal 𝓤 H A mem run) → Triple 𝓤 (C #views·kept) (Keeps 𝓤 H A mem run)
+  make-view-walks : (C : Calls 𝓤 H) (Λ : Loops 𝓤 H) → FmC 𝓤 H (W .laws) C → Triple 𝓤 (C #acceptance·body-refusal) (Refusal 𝓤 H A mem run) → Triple 𝓤 (C #views·kept) (Keeps 𝓤 H A mem run)
       → Walks 𝓤 H A making.ended stayed (WpFn 𝓤 H C Λ code.function) (making.clauses 𝓤 H A mem run)
   make-view-walks C Λ fm known-refusal known-kept = walked 𝓤 H A making.ended stayed (making.clauses 𝓤 H A mem run) (WpFn 𝓤 H C Λ code.function) (λ κs. (slice-vals, tt)) (λ κs. (shr-slice-tells (named 0) (κs .0) u8, tt))
       (λ κs qs bounds a g are. via 𝓤 _ (fst∗ 𝓤 _ (emp 𝓤)) (walk 𝓤 H A W mem run (κs .0) (qs .0) (a .0) C Λ fm known-refusal known-kept (are .0)))
 
 make-view-meets : {M : Type 1} (𝓤 : URA M) (H : Heap 𝓤) (A : Atoms 𝓤) (W : Given 𝓤 H A) (mem : Memory → SProp 𝓤) (run : Routine → Fun 𝓤) (𝓣 : Tables 𝓤 H)
-    → Triple 𝓤 (𝓣 .C #record·body-refusal) (Refusal 𝓤 H A mem run) → Triple 𝓤 (𝓣 .C #views·kept) (Keeps 𝓤 H A mem run)
+    → Triple 𝓤 (𝓣 .C #acceptance·body-refusal) (Refusal 𝓤 H A mem run) → Triple 𝓤 (𝓣 .C #views·kept) (Keeps 𝓤 H A mem run)
     → Meets 𝓤 H A making.signature (WpFn 𝓤 H (𝓣 .C) (𝓣 .Λ) code.function) (making.spec 𝓤 H A mem run)
 make-view-meets 𝓤 H A W mem run 𝓣 known-refusal known-kept =
     walk-meets 𝓤 H A making.ended stayed W (goes-none-slice 𝓤 H A W 1 (0 ∷ []) tt (plain (λ _. u8)) yes, tt) (making.clauses 𝓤 H A mem run)
@@ -187,5 +187,5 @@ make-view-spec 𝓤 H 𝓜 𝓖 𝓡 =
     entered 𝓤 H (tripleOf 𝓤 H (𝓖 .A) making.signature (making.spec 𝓤 H (𝓖 .A) (𝓜 .mem) (𝓡 .run)))
     (tables 𝓤 H 𝓜 𝓡 code.env .C) (tables 𝓤 H 𝓜 𝓡 code.env .Λ) #views·make-view code.function (code.unfolded 𝓤 H 𝓜 𝓡)
     (make-view-meets 𝓤 H (𝓖 .A) (givenOf 𝓤 H 𝓜 𝓖) (𝓜 .mem) (𝓡 .run) (tablesOf 𝓤 H 𝓜 (tables 𝓤 H 𝓜 𝓡 code.env))
-    (cited 𝓤 H (Refusal 𝓤 H (𝓖 .A) (𝓜 .mem) (𝓡 .run)) 𝓜 𝓡 code.env #record·body-refusal refusal-def.routine code.calls-record·body-refusal (refusal-thm.met 𝓤 H 𝓜 𝓖 𝓡))
+    (cited 𝓤 H (Refusal 𝓤 H (𝓖 .A) (𝓜 .mem) (𝓡 .run)) 𝓜 𝓡 code.env #acceptance·body-refusal refusal-def.routine code.calls-acceptance·body-refusal (refusal-thm.met 𝓤 H 𝓜 𝓖 𝓡))
     (cited 𝓤 H (Keeps 𝓤 H (𝓖 .A) (𝓜 .mem) (𝓡 .run)) 𝓜 𝓡 code.env #views·kept kept-def.routine code.calls-views·kept (kept-thm.met 𝓤 H 𝓜 𝓖 𝓡)))

@@ -1,6 +1,6 @@
 -- `finish_settled` meets its contract: at the loop's head the window is the one before record k of the settled trace.
-use Prim.Native.Nat.{_-_, _≤_}
-use mathlib.Core.Path.{_≡_}
+use Prim.Native.Nat.{ℕ, _-_, _<_, _≤_}
+use mathlib.Core.Path.{_≡_, subst}
 use native.Mathlib.Omega.{arith}
 use borrow.Author.Needs.{needs}
 use Rattle.machine.specs.Time.{settle}
@@ -20,8 +20,8 @@ Inv-loop body to records w₀ k₀ w k = (k ≤ records) × (windowOf w ≡ wind
 abbrev μ-loop : tie.MeasureT-loop
 μ-loop body to records w₀ k₀ w k = records - k
 
-cast-records : tie.Need-cast-records Inv-loop μ-loop
-cast-records c = omega (arith, few-records _ (c .before .pre))
+count-requires : tie.Need-count-requires Inv-loop μ-loop
+count-requires c κs = few-records _ (c .before .pre)
 
 no-window-requires : tie.Need-no-window-requires Inv-loop μ-loop
 no-window-requires c κs = search needs
@@ -34,29 +34,43 @@ settled-at-requires c κs = search needs
 
 times-from-requires : tie.Need-times-from-requires Inv-loop μ-loop
 times-from-requires c κs =
-    let known = c .before .before .before .before in
-    turn-fits _ (λ n. known .shared-slice-known .given n .fits) (known .before .pre) _ _ (c .before .loop-test .taken) (c .before .before .loop .inv .1) (c .settled-at .ensures)
+    let loop = c .before .before in
+    let counted = loop .before .before in
+    let known = counted .before in
+    let inside = subst (λ (n : ℕ). loop .loop .k < n) (counted .count .ensures) (c .before .loop-test .taken) in
+    turn-fits _ (λ n. known .shared-slice-known .given n .fits) (known .before .pre) _ _ inside (loop .loop .inv .1) (c .settled-at .ensures)
 
 slide-requires : tie.Need-slide-requires Inv-loop μ-loop
 slide-requires c κs =
-    let known = c .before .before .before .before .before in
-    turn-room _ (λ n. known .shared-slice-known .given n .fits) (known .before .pre) _ _ (c .before .before .loop-test .taken) (c .before .before .before .loop .inv .1) (c .before .settled-at .ensures) (c .times-from .ensures)
+    let loop = c .before .before .before in
+    let counted = loop .before .before in
+    let known = counted .before in
+    let inside = subst (λ (n : ℕ). loop .loop .k < n) (counted .count .ensures) (c .before .before .loop-test .taken) in
+    turn-room _ (λ n. known .shared-slice-known .given n .fits) (known .before .pre) _ _ inside (loop .loop .inv .1) (c .before .settled-at .ensures) (c .times-from .ensures)
 
 add-k : tie.Need-add-k Inv-loop μ-loop
-add-k c = omega (arith, few-records _ (c .before .before .before .before .before .before .before .pre))
+add-k c =
+    let counted = c .before .before .before .before .before .before in
+    omega (arith, counted .count .ensures, few-records _ (counted .before .before .pre))
 
 loop-less : tie.Need-loop-less Inv-loop μ-loop
 loop-less c = omega arith
 
 loop-again : tie.Need-loop-again Inv-loop μ-loop
 loop-again c =
-    let known = c .before .before .before .before .before .before in (
+    let loop = c .before .before .before .before in
+    let counted = loop .before .before in
+    let known = counted .before in
+    let inside = subst (λ (n : ℕ). loop .loop .k < n) (counted .count .ensures) (c .before .before .before .loop-test .taken) in (
       omega arith,
-      turn-slides _ (λ n. known .shared-slice-known .given n .fits) (known .before .pre) _ _ (c .before .before .before .loop-test .taken) (c .before .before .before .before .loop .inv .1) (c .before .before .settled-at .ensures) (c .before .times-from .ensures) (c .slide .ensures),
+      turn-slides _ (λ n. known .shared-slice-known .given n .fits) (known .before .pre) _ _ inside (loop .loop .inv .1) (c .before .before .settled-at .ensures) (c .before .times-from .ensures) (c .slide .ensures),
     )
 
 returns : tie.Need-returns Inv-loop μ-loop
-returns c = pass-ends _ _ (c .before .loop .inv .1) (omega (arith, length-settled (c .before .before .before .before .args .body .now) (flagOf (c .before .before .before .before .args .to))))
+returns c =
+    let counted = c .before .before .before in
+    let a = counted .before .before .args in
+    pass-ends _ _ (c .before .loop .inv .1) (omega (arith, counted .count .ensures, length-settled (a .body .now) (flagOf (a .to))))
 
 pub finish-settled-spec : {M : Type 1} → statement M
 finish-settled-spec =
@@ -64,7 +78,7 @@ finish-settled-spec =
     (tie.spec
     Inv-loop
     μ-loop
-    cast-records
+    count-requires
     no-window-requires
     loop-holds
     settled-at-requires

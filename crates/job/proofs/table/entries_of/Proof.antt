@@ -2,7 +2,8 @@
 use Rattle.job.proofs.Entries.{entry-large, entry-offset, entry-fine, start-zero, start-more, entries-stop, entries-pass}
 use Rattle.job.proofs.First.{first-zero, first-more, first-stop}
 use Rattle.job.specs.Open.{entryRefusal, entriesRefusal}
-use Rattle.job.specs.Layout.{startAt}
+use Rattle.record.specs.Layout.{recordSize}
+use Rattle.job.specs.Layout.{maxTraces, maxCount, entryAt, startAt}
 use Rattle.job.specs.Refusal.{firstRefusal}
 use borrow.Author.Needs.{needs}
 use native.Mathlib.Omega.{arith}
@@ -16,7 +17,7 @@ use Rattle.little_endian.proofs.half.Reads as half-reads
 use Rattle.little_endian.proofs.word.Reads as word-reads
 
 abbrev Inv-loop : tie.InvT-loop
-Inv-loop file count end₀ t₀ end t = (t ≤ count) × (end ≡ startAt file t) × (firstRefusal (entryRefusal file) t ≡ 0) × (end ≤ 98 + 40960 * t)
+Inv-loop file count end₀ t₀ end t = (t ≤ count) × (end ≡ startAt file t) × (firstRefusal (entryRefusal file) t ≡ 0) × (end ≤ entryAt maxTraces + recordSize * maxCount * t)
 
 abbrev μ-loop : tie.MeasureT-loop
 μ-loop file count end₀ t₀ end t = count - t
@@ -64,7 +65,7 @@ loop-less : tie.Need-loop-less Inv-loop μ-loop
 loop-less c = omega arith
 
 loop-again : tie.Need-loop-again Inv-loop μ-loop
-loop-again c = (omega arith, ap₂ (λ (a b : ℕ). a + 10 * b) (c .before .before .before .before .before .loop .inv .1) (c .before .before .before .half .ensures .0) ∙ sym (start-more _ _ _), first-more _ _ (c .before .before .before .before .before .loop .inv .2) (entry-fine _ _ (rw (c .before .before .before .half .ensures .0) at (c .before .before .if1 .left)) (sym (c .before .word .ensures .0) ∙ c .if2 .left ∙ c .before .before .before .before .before .loop .inv .1)), omega arith)
+loop-again c = (omega arith, ap₂ (λ (a b : ℕ). a + recordSize * b) (c .before .before .before .before .before .loop .inv .1) (c .before .before .before .half .ensures .0) ∙ sym (start-more _ _ _), first-more _ _ (c .before .before .before .before .before .loop .inv .2) (entry-fine _ _ (rw (c .before .before .before .half .ensures .0) at (c .before .before .if1 .left)) (sym (c .before .word .ensures .0) ∙ c .if2 .left ∙ c .before .before .before .before .before .loop .inv .1)), omega arith)
 
 returns-3 : tie.Need-returns-3 Inv-loop μ-loop
 returns-3 c = let end : c .before .loop .t ≡ c .before .before .before .args .count = omega arith in (entries-pass _ _ (end ∙ c .before .before .before .pre .0) (c .before .loop .inv .2), λ e. c .before .loop .inv .1 ∙ ap (startAt (c .before .before .before .args .file .now)) end)

@@ -17,7 +17,7 @@ use Rattle.job.proofs.table.file_refusal.Reads as reads
 use Rattle.job.proofs.table.file_refusal.Lts as lts
 use Rattle.job.proofs.table.entries_of.Reads as entries-of-reads
 use Rattle.job.proofs.table.table_refusal.Reads as table-refusal-reads
-use Rattle.record.proofs.record_refusal.Reads as record-refusal-reads
+use Rattle.acceptance.proofs.record_refusal.Reads as record-refusal-reads
 use Rattle.little_endian.proofs.half.Reads as half-reads
 
 table-refusal-requires : tie.Need-table-refusal-requires

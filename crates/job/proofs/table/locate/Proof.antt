@@ -1,5 +1,6 @@
 -- `locate` meets its contract: a file that is refused, a trace number that is too large, or a body that is there.
 use Rattle.job.proofs.Accepted.{file-fine, body-fits, locate-refused, locate-found, open-out, open-declined}
+use Rattle.record.specs.Layout.{recordSize}
 use Rattle.job.specs.Layout.{traces, countAt, startAt}
 use native.Mathlib.Omega.{arith}
 use Prim.Native.Nat.{ℕ, _+_, _*_, _≤_, _<_}
@@ -53,7 +54,7 @@ cast-t12 : tie.Need-cast-t12
 cast-t12 c = search needs
 
 returns-3 : tie.Need-returns-3
-returns-3 c = sym (locate-found _ _ _ _ (sym (c .before .before .before .before .before .file-refusal .ensures) ∙ c .before .before .before .before .if1 .left) (rw (c .before .before .before .half .ensures .0) at (c .before .before .if2 .left)) (c .before .word .ensures .0) (ap (λ (n : ℕ). c .before .word .result + 10 * n) (c .half2 .ensures .0)))
+returns-3 c = sym (locate-found _ _ _ _ (sym (c .before .before .before .before .before .file-refusal .ensures) ∙ c .before .before .before .before .if1 .left) (rw (c .before .before .before .half .ensures .0) at (c .before .before .if2 .left)) (c .before .word .ensures .0) (ap (λ (n : ℕ). c .before .word .result + recordSize * n) (c .half2 .ensures .0)))
 
 pub locate-spec : {M : Type 1} → statement M
 locate-spec =

@@ -4,7 +4,8 @@ use native.Mathlib.Omega.{arith}
 use Rattle.machine.proofs.Step.{step-by-slots}
 use Rattle.machine.proofs.Orderly.{orderly-is-tested}
 use Rattle.record.specs.Body.{traceOf}
-use Rattle.record.proofs.Accepted.{lawful-length, settled-accepted}
+use Rattle.record.proofs.Accepted.{few-records, settled-accepted}
+use Rattle.record.proofs.Instructions.{length-traceOf}
 use Rattle.record.proofs.Refusals.{stop, go-on, last-passes, last-fails}
 use Rattle.pipeline.specs.Step.{stepRefusal}
 use Rattle.pipeline.proofs.Answer.{refused, stepped}
@@ -18,8 +19,8 @@ returns : tie.Need-returns
 unfolding stepRefusal
 returns c = refused _ _ (stop _ (c .before .settled-refusal .ensures) (λ z. omega (arith, c .if1 .taken, z))) (λ z. omega (arith, c .if1 .taken, z))
 
-records-requires : tie.Need-records-requires
-records-requires c κs = lawful-length _ (settled-accepted _ (sym (c .before .settled-refusal .ensures) ∙ c .if1 .left))
+count-requires : tie.Need-count-requires
+count-requires c κs = few-records _ (settled-accepted _ (sym (c .before .settled-refusal .ensures) ∙ c .if1 .left))
 
 read-stages-requires : tie.Need-read-stages-requires
 read-stages-requires c κs = tt
@@ -32,11 +33,10 @@ cycle-requires c κs =
     let c3 = c .before .before .before in
     let a = c3 .before .before .before .before .args in
     let trace = traceOf (a .body .now) in
-    let n = c3 .records .ensures in
-    let t = sym (c .before .orderly .ensures trace (c .before .before .read-stages .ensures) (n .0)) ∙ c .if2 .taken in
+    let long = length-traceOf (a .body .now) ∙ sym (c3 .count .ensures) in
+    let t = sym (c .before .orderly .ensures trace (c .before .before .read-stages .ensures) long) ∙ c .if2 .taken in
     let f = (orderly-is-tested trace (a .s) .1 t) .fetched in
-    let e = n .0 in
-    let few = n .1 in
+    let few = few-records _ (settled-accepted _ (sym (c3 .before .before .settled-refusal .ensures) ∙ c3 .before .if1 .left)) in
     omega arith
 
 returns-2 : tie.Need-returns-2
@@ -46,7 +46,7 @@ returns-2 c =
     let a = c4 .before .before .before .before .args in
     let trace = traceOf (a .body .now) in
     let reads = c .before .before .before .read-stages .ensures in
-    let long = c4 .records .ensures .0 in
+    let long = length-traceOf (a .body .now) ∙ sym (c4 .count .ensures) in
     let t = sym (c .before .before .orderly .ensures trace reads long) ∙ c .before .if2 .taken in
     stepped _ _
     (go-on (c4 .before .before .settled-refusal .ensures) (c4 .before .if1 .left) (last-passes 12 t))
@@ -56,8 +56,9 @@ returns-3 : tie.Need-returns-3
 unfolding stepRefusal
 returns-3 c =
     let c3 = c .before .before .before in
-    let trace = traceOf (c3 .before .before .before .before .args .body .now) in
-    let t = sym (c .before .orderly .ensures trace (c .before .before .read-stages .ensures) (c3 .records .ensures .0)) ∙ c .if2 .left in
+    let body = c3 .before .before .before .before .args .body .now in
+    let long = length-traceOf body ∙ sym (c3 .count .ensures) in
+    let t = sym (c .before .orderly .ensures (traceOf body) (c .before .before .read-stages .ensures) long) ∙ c .if2 .left in
     refused _ _ (go-on (c3 .before .before .settled-refusal .ensures) (c3 .before .if1 .left) (last-fails 12 t)) (λ z. omega arith)
 
 pub step-spec : {M : Type 1} → statement M
@@ -66,7 +67,7 @@ step-spec =
     (tie.spec
     settled-refusal-requires
     returns
-    records-requires
+    count-requires
     read-stages-requires
     orderly-requires
     cycle-requires

@@ -4,7 +4,7 @@ use native.Mathlib.Omega.{arith}
 use Rattle.machine.specs.Time.{best, worst}
 use Rattle.record.specs.Rules.{flagOf}
 use Rattle.record.proofs.Accepted.{few-records}
-use Rattle.record.proofs.Encoding.{length-traceOf}
+use Rattle.record.proofs.Instructions.{length-traceOf}
 use Rattle.timing.proofs.Answered.{best-worst-given}
 use Rattle.timing.specs.declared.calls.BestWorst.{BestWorst}
 use Rattle.report_text.specs.Report.{lineOf}
@@ -22,12 +22,22 @@ best-worst-requires c κs = search needs
 unknown-flags-requires : tie.Need-unknown-flags-requires
 unknown-flags-requires c κs = search needs
 
-cast-t8 : tie.Need-cast-t8
-cast-t8 c = omega (arith, few-records _ (c .before .before .before .pre))
+count-requires : tie.Need-count-requires
+count-requires c κs = few-records _ (c .before .before .before .pre)
 
 returns : tie.Need-returns
 unfolding lineOf best worst flagOf
-returns c = let body = c .before .before .before .args .body .now in let times = c .before .best-worst .ensures ∙ sym (best-worst-given body (c .before .before .before .pre) refl refl) in rw (ap (λ (t : BestWorst). t .best) times, ap (λ (t : BestWorst). t .worst) times, c .unknown-flags .ensures, length-traceOf body)
+returns c =
+    let body = c .before .before .before .before .args .body .now in
+    let given = best-worst-given body (c .before .before .before .before .pre) refl refl in
+    let times = c .before .before .best-worst .ensures ∙ sym given in
+    rw (
+      ap (λ (t : BestWorst). t .best) times,
+      ap (λ (t : BestWorst). t .worst) times,
+      c .before .unknown-flags .ensures,
+      c .count .ensures,
+      length-traceOf body,
+    )
 
 pub line-of-spec : {M : Type 1} → statement M
-line-of-spec = tie.close (tie.spec best-worst-requires unknown-flags-requires cast-t8 returns)
+line-of-spec = tie.close (tie.spec best-worst-requires unknown-flags-requires count-requires returns)

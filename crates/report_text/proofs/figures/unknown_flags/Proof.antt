@@ -1,7 +1,7 @@
 -- `report_text::figures::unknown_flags` meets its contract: at the loop's head the flags of the first k instructions are counted.
-use Prim.Native.Nat.{ℕ, _+_, _*_, _-_, _≤_}
+use Prim.Native.Nat.{ℕ, _+_, _*_, _-_, _<_, _≤_}
 use mathlib.Core.List.{List}
-use mathlib.Core.Path.{_≡_, refl, sym, ap, ap₂, _∙_}
+use mathlib.Core.Path.{_≡_, refl, sym, ap, ap₂, subst, _∙_}
 use native.Mathlib.Omega.{arith}
 use native.Mathlib.Numerals.{add-one}
 use Rattle.machine.specs.Instruction.{Trace}
@@ -29,8 +29,8 @@ Inv-loop body records unknown₀ k₀ unknown k = (k ≤ records) × (unknown �
 abbrev μ-loop : tie.MeasureT-loop
 μ-loop body records unknown₀ k₀ unknown k = records - k
 
-cast-records : tie.Need-cast-records Inv-loop μ-loop
-cast-records c = omega (arith, few-records _ (c .before .pre))
+count-requires : tie.Need-count-requires Inv-loop μ-loop
+count-requires c κs = few-records _ (c .before .pre)
 
 loop-holds : tie.Need-loop-holds Inv-loop μ-loop
 unfolding read-first firsts unknownFlags
@@ -43,21 +43,52 @@ unknowns-of-requires : tie.Need-unknowns-of-requires Inv-loop μ-loop
 unknowns-of-requires c κs = tt
 
 add-unknown : tie.Need-add-unknown Inv-loop μ-loop
-add-unknown c = omega (arith, c .before .before .before .loop .inv .2, c .unknowns-of .ensures .1, c .before .before .loop-test .taken, few-records _ (c .before .before .before .before .before .pre))
+add-unknown c =
+    let counted = c .before .before .before .before in
+    omega (
+      arith,
+      c .before .before .before .loop .inv .2,
+      c .unknowns-of .ensures .1,
+      c .before .before .loop-test .taken,
+      counted .count .ensures,
+      few-records _ (counted .before .before .pre),
+    )
 
 add-k : tie.Need-add-k Inv-loop μ-loop
-add-k c = omega (arith, c .before .before .loop-test .taken, few-records _ (c .before .before .before .before .before .pre))
+add-k c =
+    let counted = c .before .before .before .before in
+    omega (arith, c .before .before .loop-test .taken, counted .count .ensures, few-records _ (counted .before .before .pre))
 
 loop-less : tie.Need-loop-less Inv-loop μ-loop
 loop-less c = omega (arith, c .before .before .loop-test .taken)
 
 loop-again : tie.Need-loop-again Inv-loop μ-loop
 unfolding read-first firsts instructionOf
-loop-again c = let body = c .before .before .before .before .before .args .body .now in let k = c .before .before .before .loop .k in let here = ap (λ (f : Fields). isUnknown (flagOf (f .fetch)) + isUnknown (flagOf (f .access))) (read-fields body k (c .before .before .loop-test .taken) (c .before .fields-at .ensures)) in (omega (arith, c .before .before .loop-test .taken), ap₂ (λ (a b : ℕ). a + b) (c .before .before .before .loop .inv .1) (c .unknowns-of .ensures .0 ∙ here) ∙ sym (unknown-more (read-first body k) (instructionOf (fieldsAt body k))) ∙ ap (λ (n : ℕ). unknownFlags (read-first body n)) (sym (add-one k)), omega (arith, c .before .before .before .loop .inv .2, c .unknowns-of .ensures .1))
+loop-again c =
+    let loop = c .before .before .before in
+    let counted = loop .before in
+    let body = counted .before .before .args .body .now in
+    let k = loop .loop .k in
+    let inside = subst (λ (n : ℕ). k < n) (counted .count .ensures) (c .before .before .loop-test .taken) in
+    let here =
+    ap
+    (λ (f : Fields). isUnknown (flagOf (f .fetch)) + isUnknown (flagOf (f .access)))
+    (read-fields body k inside (c .before .fields-at .ensures)) in (
+      omega (arith, c .before .before .loop-test .taken),
+      ap₂ (λ (a b : ℕ). a + b) (loop .loop .inv .1) (c .unknowns-of .ensures .0 ∙ here)
+          ∙ sym (unknown-more (read-first body k) (instructionOf (fieldsAt body k)))
+          ∙ ap (λ (n : ℕ). unknownFlags (read-first body n)) (sym (add-one k)),
+      omega (arith, loop .loop .inv .2, c .unknowns-of .ensures .1),
+    )
 
 returns : tie.Need-returns Inv-loop μ-loop
 unfolding read-first traceOf
-returns c = let body = c .before .before .before .args .body .now in let end : c .before .loop .k ≡ records body = omega (arith, c .loop-test .left, c .before .loop .inv .0) in c .before .loop .inv .1 ∙ ap (λ (n : ℕ). unknownFlags (read-first body n)) end
+returns c =
+    let counted = c .before .before in
+    let body = counted .before .before .args .body .now in
+    let end : c .before .loop .k ≡ records body =
+    omega (arith, c .loop-test .left, c .before .loop .inv .0, counted .count .ensures) in
+    c .before .loop .inv .1 ∙ ap (λ (n : ℕ). unknownFlags (read-first body n)) end
 
 pub unknown-flags-spec : {M : Type 1} → statement M
 unknown-flags-spec =
@@ -65,7 +96,7 @@ unknown-flags-spec =
     (tie.spec
     Inv-loop
     μ-loop
-    cast-records
+    count-requires
     loop-holds
     fields-at-requires
     unknowns-of-requires

@@ -1,6 +1,6 @@
 -- `text::put::put_text` meets its contract: the text is copied into the part of the output from its place on.
 use mathlib.Core.Path.{refl}
-use Rattle.text.proofs.Placed.{put-part}
+use Rattle.little_endian.proofs.Placed.{put-part}
 use Rattle.text.specs.Text.{put}
 use borrow.Author.Needs.{needs}
 use Rattle.text.proofs.put.put_text.Statement.{statement}

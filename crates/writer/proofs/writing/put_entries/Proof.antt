@@ -3,6 +3,7 @@ use Rattle.writer.proofs.WrittenTable.{entries-none, entries-more}
 use Rattle.job.proofs.Starts.{start-le}
 use Rattle.job.proofs.Entries.{start-zero, start-more}
 use Rattle.writer.specs.Write.{count, tableOf}
+use Rattle.record.specs.Layout.{recordSize}
 use Rattle.job.specs.Layout.{headerSize, entryAt, bodyStart}
 use lib.ListN.{length, take, drop}
 use native.Mathlib.Omega.{arith}
@@ -70,7 +71,7 @@ loop-less : tie.Need-loop-less Inv-loop μ-loop
 loop-less c = omega arith
 
 loop-again : tie.Need-loop-again Inv-loop μ-loop
-loop-again c = let counts = c .before .before .before .before .before .before .before .before .before .before .args .counts .now in let o = c .before .before .before .before .before .before .before .before .before .before .args .out .now in let room : 2 ≤ length o = omega (arith, c .before .before .before .before .before .before .before .before .before .before .pre) in (omega arith, omega arith, ap₂ (λ (a b : ℕ). a + 10 * b) (c .before .before .before .before .before .before .before .loop .inv .2) (c .before .before .before .before .wide .ensures .0) ∙ sym (start-more (length counts) (count counts) (c .before .before .before .before .before .before .before .loop .t)), c .before .before .put-entry .kept .0 ∙ c .before .before .before .before .before .before .before .loop .inv .3, entries-more counts o (c .before .before .before .before .before .before .before .loop .out) _ (c .before .before .before .before .before .before .before .loop .t) (c .before .before .before .before .before .before .before .loop .at) _ _ room (c .before .before .before .before .before .before .before .loop .inv .1) (c .before .before .before .before .before .before .before .loop .inv .2) (c .before .before .before .before .wide .ensures .0) (c .before .before .before .before .before .before .before .loop .inv .4) (c .before .before .put-entry .ensures))
+loop-again c = let counts = c .before .before .before .before .before .before .before .before .before .before .args .counts .now in let o = c .before .before .before .before .before .before .before .before .before .before .args .out .now in let room : 2 ≤ length o = omega (arith, c .before .before .before .before .before .before .before .before .before .before .pre) in (omega arith, omega arith, ap₂ (λ (a b : ℕ). a + recordSize * b) (c .before .before .before .before .before .before .before .loop .inv .2) (c .before .before .before .before .wide .ensures .0) ∙ sym (start-more (length counts) (count counts) (c .before .before .before .before .before .before .before .loop .t)), c .before .before .put-entry .kept .0 ∙ c .before .before .before .before .before .before .before .loop .inv .3, entries-more counts o (c .before .before .before .before .before .before .before .loop .out) _ (c .before .before .before .before .before .before .before .loop .t) (c .before .before .before .before .before .before .before .loop .at) _ _ room (c .before .before .before .before .before .before .before .loop .inv .1) (c .before .before .before .before .before .before .before .loop .inv .2) (c .before .before .before .before .wide .ensures .0) (c .before .before .before .before .before .before .before .loop .inv .4) (c .before .before .put-entry .ensures))
 
 same-length : tie.Need-same-length Inv-loop μ-loop
 same-length c = c .before .loop .inv .3

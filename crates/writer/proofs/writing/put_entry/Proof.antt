@@ -1,7 +1,6 @@
 -- `put_entry` meets its contract: the offset's four bytes and the count's two make one piece.
-use Rattle.text.proofs.Placed.{put-both}
-use Rattle.writer.specs.Write.{wordBytes}
-use Rattle.record.specs.Body.{halfBytes}
+use Rattle.little_endian.proofs.Placed.{put-both}
+use Rattle.little_endian.specs.Numbers.{halfBytes, wordBytes}
 use native.Mathlib.Omega.{arith}
 use mathlib.Core.Path.{_∙_}
 use borrow.Author.Needs.{needs}
@@ -9,8 +8,8 @@ use Rattle.writer.proofs.writing.put_entry.Statement.{statement}
 use Rattle.writer.proofs.writing.put_entry.Tie as tie
 use Rattle.writer.proofs.writing.put_entry.Reads as reads
 use Rattle.writer.proofs.writing.put_entry.Lts as lts
-use Rattle.writer.proofs.writing.put_half.Reads as put-half-reads
-use Rattle.writer.proofs.writing.put_word.Reads as put-word-reads
+use Rattle.little_endian.proofs.put_half.Reads as put-half-reads
+use Rattle.little_endian.proofs.put_word.Reads as put-word-reads
 
 put-word-requires : tie.Need-put-word-requires
 put-word-requires c κs = search needs

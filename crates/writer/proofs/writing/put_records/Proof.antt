@@ -1,5 +1,5 @@
 -- `put_records` meets its contract: the records are copied into the part of the output that starts at their position.
-use Rattle.text.proofs.Placed.{put-part}
+use Rattle.little_endian.proofs.Placed.{put-part}
 use borrow.Author.Needs.{needs}
 use Rattle.writer.proofs.writing.put_records.Statement.{statement}
 use Rattle.writer.proofs.writing.put_records.Tie as tie

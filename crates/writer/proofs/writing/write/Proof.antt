@@ -12,7 +12,7 @@ use Rattle.writer.proofs.writing.write.Tie as tie
 use Rattle.writer.proofs.writing.write.Reads as reads
 use Rattle.writer.proofs.writing.write.Lts as lts
 use Rattle.writer.proofs.writing.put_entries.Reads as put-entries-reads
-use Rattle.writer.proofs.writing.put_half.Reads as put-half-reads
+use Rattle.little_endian.proofs.put_half.Reads as put-half-reads
 use Rattle.writer.proofs.writing.put_records.Reads as put-records-reads
 use Rattle.writer.proofs.writing.write_refusal.Reads as write-refusal-reads
 

@@ -1,4 +1,5 @@
 -- `write_refusal` meets its contract: 3, 5, 13, 1, 8, 14, in that order.
+use Rattle.record.specs.Layout.{recordSize}
 use Rattle.writer.specs.Write.{fileLength, writeRefusal}
 use Rattle.record.proofs.Refusals.{stop, go-on, fails, passes, last-fails, last-passes}
 use borrow.Author.Tests.{le-leb, lt-leb, eq-eqb, ne-eqb}
@@ -11,7 +12,7 @@ use Rattle.writer.proofs.writing.write_refusal.Reads as reads
 use Rattle.writer.proofs.writing.write_refusal.Lts as lts
 use Rattle.writer.proofs.writing.counts_refusal.Reads as counts-refusal-reads
 use Rattle.writer.proofs.writing.sum_of.Reads as sum-of-reads
-use Rattle.record.proofs.record_refusal.Reads as record-refusal-reads
+use Rattle.acceptance.proofs.record_refusal.Reads as record-refusal-reads
 
 cast-if1 : tie.Need-cast-if1
 cast-if1 c = search needs
@@ -38,7 +39,7 @@ mul-if3 c = search needs
 
 returns-3 : tie.Need-returns-3
 unfolding writeRefusal
-returns-3 c = passes _ (le-leb _ _ (c .before .before .before .before .if1 .left)) (go-on (c .before .before .before .counts-refusal .ensures) (c .before .before .if2 .left) (fails _ _ (ne-eqb _ _ (λ e. c .if3 .taken (e ∙ ap (λ (n : ℕ). 10 * n) (sym (c .before .sum-of .ensures .0)))))))
+returns-3 c = passes _ (le-leb _ _ (c .before .before .before .before .if1 .left)) (go-on (c .before .before .before .counts-refusal .ensures) (c .before .before .if2 .left) (fails _ _ (ne-eqb _ _ (λ e. c .if3 .taken (e ∙ ap (λ (n : ℕ). recordSize * n) (sym (c .before .sum-of .ensures .0)))))))
 
 cast-end : tie.Need-cast-end
 cast-end c = search needs
@@ -60,22 +61,22 @@ cast-if4 c = search needs
 
 returns-4 : tie.Need-returns-4
 unfolding writeRefusal fileLength
-returns-4 c = passes _ (le-leb _ _ (c .before .before .before .before .before .if1 .left)) (go-on (c .before .before .before .before .counts-refusal .ensures) (c .before .before .before .if2 .left) (passes _ (eq-eqb _ _ (c .before .if3 .left ∙ ap (λ (n : ℕ). 10 * n) (c .before .before .sum-of .ensures .0))) (fails _ _ (lt-leb _ _ (c .if4 .taken)))))
+returns-4 c = passes _ (le-leb _ _ (c .before .before .before .before .before .if1 .left)) (go-on (c .before .before .before .before .counts-refusal .ensures) (c .before .before .before .if2 .left) (passes _ (eq-eqb _ _ (c .before .if3 .left ∙ ap (λ (n : ℕ). recordSize * n) (c .before .before .sum-of .ensures .0))) (fails _ _ (lt-leb _ _ (c .if4 .taken)))))
 
 record-refusal-requires : tie.Need-record-refusal-requires
 record-refusal-requires c κs = search needs
 
 returns-5 : tie.Need-returns-5
 unfolding writeRefusal fileLength
-returns-5 c = passes _ (le-leb _ _ (c .before .before .before .before .before .before .before .if1 .left)) (go-on (c .before .before .before .before .before .before .counts-refusal .ensures) (c .before .before .before .before .before .if2 .left) (passes _ (eq-eqb _ _ (c .before .before .before .if3 .left ∙ ap (λ (n : ℕ). 10 * n) (c .before .before .before .before .sum-of .ensures .0))) (passes _ (le-leb _ _ (c .before .before .if4 .left)) (stop _ (c .before .record-refusal .ensures) (c .if5 .taken)))))
+returns-5 c = passes _ (le-leb _ _ (c .before .before .before .before .before .before .before .if1 .left)) (go-on (c .before .before .before .before .before .before .counts-refusal .ensures) (c .before .before .before .before .before .if2 .left) (passes _ (eq-eqb _ _ (c .before .before .before .if3 .left ∙ ap (λ (n : ℕ). recordSize * n) (c .before .before .before .before .sum-of .ensures .0))) (passes _ (le-leb _ _ (c .before .before .if4 .left)) (stop _ (c .before .record-refusal .ensures) (c .if5 .taken)))))
 
 returns-6 : tie.Need-returns-6
 unfolding writeRefusal fileLength
-returns-6 c = passes _ (le-leb _ _ (c .before .before .before .before .before .before .before .before .if1 .left)) (go-on (c .before .before .before .before .before .before .before .counts-refusal .ensures) (c .before .before .before .before .before .before .if2 .left) (passes _ (eq-eqb _ _ (c .before .before .before .before .if3 .left ∙ ap (λ (n : ℕ). 10 * n) (c .before .before .before .before .before .sum-of .ensures .0))) (passes _ (le-leb _ _ (c .before .before .before .if4 .left)) (go-on (c .before .before .record-refusal .ensures) (c .before .if5 .left) (last-fails _ (lt-leb _ _ (c .if6 .taken)))))))
+returns-6 c = passes _ (le-leb _ _ (c .before .before .before .before .before .before .before .before .if1 .left)) (go-on (c .before .before .before .before .before .before .before .counts-refusal .ensures) (c .before .before .before .before .before .before .if2 .left) (passes _ (eq-eqb _ _ (c .before .before .before .before .if3 .left ∙ ap (λ (n : ℕ). recordSize * n) (c .before .before .before .before .before .sum-of .ensures .0))) (passes _ (le-leb _ _ (c .before .before .before .if4 .left)) (go-on (c .before .before .record-refusal .ensures) (c .before .if5 .left) (last-fails _ (lt-leb _ _ (c .if6 .taken)))))))
 
 returns-7 : tie.Need-returns-7
 unfolding writeRefusal fileLength
-returns-7 c = passes _ (le-leb _ _ (c .before .before .before .before .before .before .before .before .if1 .left)) (go-on (c .before .before .before .before .before .before .before .counts-refusal .ensures) (c .before .before .before .before .before .before .if2 .left) (passes _ (eq-eqb _ _ (c .before .before .before .before .if3 .left ∙ ap (λ (n : ℕ). 10 * n) (c .before .before .before .before .before .sum-of .ensures .0))) (passes _ (le-leb _ _ (c .before .before .before .if4 .left)) (go-on (c .before .before .record-refusal .ensures) (c .before .if5 .left) (last-passes _ (le-leb _ _ (c .if6 .left)))))))
+returns-7 c = passes _ (le-leb _ _ (c .before .before .before .before .before .before .before .before .if1 .left)) (go-on (c .before .before .before .before .before .before .before .counts-refusal .ensures) (c .before .before .before .before .before .before .if2 .left) (passes _ (eq-eqb _ _ (c .before .before .before .before .if3 .left ∙ ap (λ (n : ℕ). recordSize * n) (c .before .before .before .before .before .sum-of .ensures .0))) (passes _ (le-leb _ _ (c .before .before .before .if4 .left)) (go-on (c .before .before .record-refusal .ensures) (c .before .if5 .left) (last-passes _ (le-leb _ _ (c .if6 .left)))))))
 
 pub write-refusal-spec : {M : Type 1} → statement M
 write-refusal-spec =

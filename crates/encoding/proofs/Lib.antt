@@ -1,0 +1,7 @@
+pub mod Cases
+pub mod Encoding
+pub mod Fits
+pub mod Numbers
+pub mod RoundTrip
+pub mod SettledBody
+pub mod SettledRecord
