@@ -109,13 +109,13 @@ typedef struct {
     uint32_t refusal;
     uint32_t best;
     uint32_t worst;
-} sic_times;
+} sic_best_and_worst;
 
 /* Below 0 the deadline is missed; 0 is met exactly. */
 typedef struct {
     uint32_t refusal;
     int64_t margin;
-} sic_slack;
+} sic_deadline_margin;
 
 typedef struct {
     uint32_t refusal;
@@ -158,10 +158,10 @@ sic_ran sic_run(const uint8_t *body, size_t body_length, uint32_t limit);
 sic_finished sic_finish(const uint8_t *body, size_t body_length);
 
 /* Best and worst, over all settlings of the unknown flags. 10, 8. */
-sic_times sic_best_worst(const uint8_t *body, size_t body_length);
+sic_best_and_worst sic_best_worst(const uint8_t *body, size_t body_length);
 
 /* Margin: deadline minus worst. 10, 8. */
-sic_slack sic_margin(const uint8_t *body, size_t body_length, uint32_t deadline);
+sic_deadline_margin sic_margin(const uint8_t *body, size_t body_length, uint32_t deadline);
 
 /* Alike: whether the finishing times are equal. 10, 8, 11 of the first, then of the second. */
 sic_likeness sic_alike(const uint8_t *first, size_t first_length, const uint8_t *second, size_t second_length);

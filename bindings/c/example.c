@@ -6,8 +6,8 @@ static const uint8_t task[20] = {1, 8, 0, 0, 1, 0, 1, 0, 10, 0, 0, 0, 1, 0, 0, 0
 static const uint8_t plain[10] = {0, 0, 0, 0, 0, 0, 1, 0, 0, 0};
 
 static void times(void) {
-    sic_times t = sic_best_worst(task, sizeof task);
-    sic_slack late = sic_margin(task, sizeof task, 10);
+    sic_best_and_worst t = sic_best_worst(task, sizeof task);
+    sic_deadline_margin late = sic_margin(task, sizeof task, 10);
     sic_likeness same = sic_alike(plain, sizeof plain, plain, sizeof plain);
     printf("best %u, worst %u, margin %lld\n", t.best, t.worst, (long long)late.margin);
     printf("finish %u, of an unknown flag refused %u\n", sic_finish(plain, sizeof plain).time, sic_finish(task, sizeof task).refusal);

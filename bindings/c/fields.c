@@ -130,7 +130,7 @@ static const uint8_t task[20] = {1, 8, 0, 0, 1, 0, 1, 0, 10, 0, 0, 0, 1, 0, 0, 0
 static const uint8_t plain[20] = {0, 0, 0, 0, 0, 0, 1, 0, 0, 0, 0, 0, 0, 0, 0, 0, 1, 0, 0, 0};
 
 static void times(void) {
-    sic_times t = sic_best_worst(task, sizeof task);
+    sic_best_and_worst t = sic_best_worst(task, sizeof task);
     IS(t.refusal, 0), IS(t.best, 8), IS(t.worst, 18);
     t = sic_best_worst(task, 11);
     IS(t.refusal, SIC_WRONG_LENGTH), IS(t.best, 0), IS(t.worst, 0);
@@ -138,7 +138,7 @@ static void times(void) {
     IS(f.refusal, 0), IS(f.time, 7);
     f = sic_finish(task, sizeof task);
     IS(f.refusal, SIC_UNKNOWN_FLAG), IS(f.time, 0);
-    sic_slack m = sic_margin(task, sizeof task, 0);
+    sic_deadline_margin m = sic_margin(task, sizeof task, 0);
     IS(m.refusal, 0), IS(m.margin, -18);
     m = sic_margin(task, sizeof task, UINT32_MAX);
     IS(m.refusal, 0), IS(m.margin, 4294967277);

@@ -8,7 +8,7 @@
 //! assert_eq!(sic::margin(&plain, 5), Ok(-1));
 //!
 //! let unknown_fetch = [0, 2, 0, 0, 0, 0, 10, 0, 0, 0];
-//! assert_eq!(sic::best_worst(&unknown_fetch), Ok(sic::Times { best: 6, worst: 16 }));
+//! assert_eq!(sic::best_worst(&unknown_fetch), Ok(sic::BestAndWorst { best: 6, worst: 16 }));
 //! assert_eq!(sic::finish(&unknown_fetch), Err(Refusal::UnknownFlag));
 //! ```
 mod layout;
@@ -73,7 +73,7 @@ impl Default for State {
 /// The nine fields of a record, as its bytes stand.
 #[derive(Clone, Copy, Debug, PartialEq, Eq)]
 #[repr(C)]
-pub struct Record {
+pub struct Fields {
     pub kind: u32,
     pub fetch: u32,
     pub access: u32,
@@ -87,7 +87,7 @@ pub struct Record {
 
 /// What a run gives.
 #[derive(Clone, Copy, Debug, PartialEq, Eq)]
-pub struct Run {
+pub struct Ran {
     pub state: State,
     pub cycles: u32,
     pub left: bool,
@@ -95,7 +95,7 @@ pub struct Run {
 
 /// The least and the greatest finishing time over all settlings.
 #[derive(Clone, Copy, Debug, PartialEq, Eq)]
-pub struct Times {
+pub struct BestAndWorst {
     pub best: u32,
     pub worst: u32,
 }
@@ -124,14 +124,14 @@ impl<'a> View<'a> {
 
     /// The fields of instruction k. Refuses 9.
     #[inline]
-    pub fn record(&self, k: u32) -> Result<Record, Refusal> {
+    pub fn record(&self, k: u32) -> Result<Fields, Refusal> {
         record_at(self.body, k)
     }
 }
 
 /// The fields of instruction k of any bytes, as they stand. Refuses 9.
 #[inline]
-pub fn record_at(body: &[u8], k: u32) -> Result<Record, Refusal> {
+pub fn record_at(body: &[u8], k: u32) -> Result<Fields, Refusal> {
     let read = unsafe { raw::sic_record(body.as_ptr(), body.len(), k) };
     answer(read.refusal, read.fields)
 }
@@ -160,9 +160,9 @@ pub fn step(body: &[u8], state: State) -> Result<State, Refusal> {
 
 /// At most `limit` cycles from the start. Refuses 10, 8, 11.
 #[inline]
-pub fn run(body: &[u8], limit: u32) -> Result<Run, Refusal> {
+pub fn run(body: &[u8], limit: u32) -> Result<Ran, Refusal> {
     let ran = unsafe { raw::sic_run(body.as_ptr(), body.len(), limit) };
-    answer(ran.refusal, Run { state: ran.state, cycles: ran.cycles, left: ran.left })
+    answer(ran.refusal, Ran { state: ran.state, cycles: ran.cycles, left: ran.left })
 }
 
 /// The finishing time. Refuses 10, 8, 11.
@@ -174,9 +174,9 @@ pub fn finish(body: &[u8]) -> Result<u32, Refusal> {
 
 /// The least and the greatest finishing time over all settlings. Refuses 10, 8.
 #[inline]
-pub fn best_worst(body: &[u8]) -> Result<Times, Refusal> {
+pub fn best_worst(body: &[u8]) -> Result<BestAndWorst, Refusal> {
     let times = unsafe { raw::sic_best_worst(body.as_ptr(), body.len()) };
-    answer(times.refusal, Times { best: times.best, worst: times.worst })
+    answer(times.refusal, BestAndWorst { best: times.best, worst: times.worst })
 }
 
 /// Deadline minus worst time; 0 is met exactly. Refuses 10, 8.

@@ -1,5 +1,5 @@
 //! The functions and structs of include/sic.h, as C has them and with its rules for the caller.
-use crate::{Record, State};
+use crate::{Fields, State};
 
 #[repr(C)]
 pub struct Part {
@@ -17,7 +17,7 @@ pub struct Written {
 #[repr(C)]
 pub struct Read {
     pub refusal: u32,
-    pub fields: Record,
+    pub fields: Fields,
 }
 
 #[repr(C)]
@@ -41,7 +41,7 @@ pub struct Finished {
 }
 
 #[repr(C)]
-pub struct BestWorst {
+pub struct BestAndWorst {
     pub refusal: u32,
     pub best: u32,
     pub worst: u32,
@@ -76,7 +76,7 @@ extern "C" {
     pub fn sic_advance(state: *mut State, body: *const u8, body_length: usize) -> u32;
     pub fn sic_run(body: *const u8, body_length: usize, limit: u32) -> Ran;
     pub fn sic_finish(body: *const u8, body_length: usize) -> Finished;
-    pub fn sic_best_worst(body: *const u8, body_length: usize) -> BestWorst;
+    pub fn sic_best_worst(body: *const u8, body_length: usize) -> BestAndWorst;
     pub fn sic_margin(body: *const u8, body_length: usize, deadline: u32) -> DeadlineMargin;
     pub fn sic_alike(first: *const u8, first_length: usize, second: *const u8, second_length: usize) -> Likeness;
     pub fn sic_chart(file: *const u8, file_length: usize, out: *mut u8, out_length: usize) -> usize;

@@ -40,7 +40,7 @@ fn a_to_l() {
         assert_eq!(finish(&trace), time, "{name}");
     }
     let l = [memory(LOAD, UNKNOWN, 10), Instruction { fetch: UNKNOWN, ..plain() }];
-    assert_eq!(sic::best_worst(&encode(&l)), Ok(sic::Times { best: 7, worst: 21 }));
+    assert_eq!(sic::best_worst(&encode(&l)), Ok(sic::BestAndWorst { best: 7, worst: 21 }));
 }
 
 #[test]

@@ -67,7 +67,7 @@ fn rows_agree(trace: &[Instruction]) {
     for (t, row) in rows.iter().enumerate() {
         let expected = state_of(&slots_of(row));
         let left = t as u32 == finish;
-        assert_eq!(sic::run(&body, t as u32), Ok(sic::Run { state: expected, cycles: t as u32, left }));
+        assert_eq!(sic::run(&body, t as u32), Ok(sic::Ran { state: expected, cycles: t as u32, left }));
         assert_eq!(state, expected);
         let next = rows.get(t + 1).unwrap_or(row);
         assert_eq!(sic::step(&body, state), Ok(state_of(&slots_of(next))));
@@ -119,7 +119,7 @@ fn bounds_agree(trace: &[Instruction], deadline: u32) -> u64 {
     let times: Vec<u32> = (0..1 << unknowns(trace)).map(|choice| finish(&settle(trace, choice))).collect();
     let (best, worst) = (*times.iter().min().unwrap(), *times.iter().max().unwrap());
     let body = encode(trace);
-    assert_eq!(sic::best_worst(&body), Ok(sic::Times { best, worst }));
+    assert_eq!(sic::best_worst(&body), Ok(sic::BestAndWorst { best, worst }));
     assert_eq!(sic::margin(&body, deadline), Ok(deadline as i64 - worst as i64));
     times.len() as u64
 }

@@ -15,7 +15,7 @@ use Rattle.running.specs.Run.{runAnswer}
 use Rattle.running.specs.declared.running.Ran.{Ran}
 use Rattle.timing.specs.Answers.{finishAnswer, bestWorstAnswer, marginAnswer}
 use Rattle.timing.specs.declared.calls.Finished.{Finished}
-use Rattle.timing.specs.declared.calls.BestWorst.{BestWorst}
+use Rattle.timing.specs.declared.calls.BestAndWorst.{BestAndWorst}
 use Rattle.timing.specs.declared.calls.DeadlineMargin.{DeadlineMargin}
 
 -- Finish gives the table's time, and declines an unknown flag
@@ -23,7 +23,7 @@ unfoldable pub finishOf : Case → Finished
 finishOf c = record { refusal = refusalOf (c .trace); time = cond (known (c .trace)) (c .worst) 0 }
 
 -- Best and worst declines none of the cases
-unfoldable pub bestWorstOf : Case → BestWorst
+unfoldable pub bestWorstOf : Case → BestAndWorst
 bestWorstOf c = record { refusal = 0; best = c .best; worst = c .worst }
 
 -- Run gives "the number of cycles run (the smaller of limit and finishing time) and whether all have left", with the state that the rules give after

@@ -8,20 +8,20 @@ use Rattle.machine.specs.State.{slot}
 use Rattle.machine.specs.declared.Slot.{Slot}
 use Rattle.machine.specs.declared.State.{State}
 use Rattle.machine.proofs.Connectives.{and-l}
-use Rattle.machine.proofs.BySlots.{standing, goes, moves-at, before, arrives, leaves, slotAfter, newSlot, stepBySlots}
+use Rattle.machine.proofs.BySlots.{standing, goes, moves-at, stageBefore, arrives, leaves, slotAfter, newSlot, stepBySlots}
 
 module _ (trace : Trace) (s : State) where
   pub slot-is
       : (k : Stage) {r : Slot} {arriving gone : Bool} {count : ℕ} →
-      r ≡ slotAfter arriving (standing trace s (before k) .index) count gone (slot s k) →
+      r ≡ slotAfter arriving (standing trace s (stageBefore k) .index) count gone (slot s k) →
       arriving ≡ arrives trace s k →
-      (arriving ≡ true → count ≡ entry (instruction trace (standing trace s (before k) .index)) k) →
+      (arriving ≡ true → count ≡ entry (instruction trace (standing trace s (stageBefore k) .index)) k) →
       gone ≡ leaves trace s k →
       r ≡ newSlot trace s k
   unfolding newSlot slotAfter
-  slot-is k {arriving = true} e a n g = e ∙ (λ i. slotAfter (a i) (standing trace s (before k) .index) (n refl i) (g i) (slot s k))
+  slot-is k {arriving = true} e a n g = e ∙ (λ i. slotAfter (a i) (standing trace s (stageBefore k) .index) (n refl i) (g i) (slot s k))
   slot-is k {arriving = false} e a n g =
-      let coming = standing trace s (before k) .index in
+      let coming = standing trace s (stageBefore k) .index in
       e ∙ (λ i. slotAfter (a i) coming (entry (instruction trace coming) k) (g i) (slot s k))
 
   -- what moves is there: a slot is filled, or an instruction is left to be fetched

@@ -9,7 +9,7 @@ use Rattle.machine.specs.Rules.{Stage, pre, IF, ID, EX, MEM, ST, WB, post, same
 use Rattle.machine.specs.State.{slot}
 use Rattle.machine.specs.declared.State.{State}
 use Rattle.machine.proofs.Connectives.{Value, passed, failed, value, clash, and-l, and-r, and-failed-l, or-l, or-r, or-else, not-passes}
-use Rattle.machine.proofs.BySlots.{standing, goes, occupied, storeInMEM, nextIn, movesIn, movesAt, freeAt, moves-at, free-at, before, arrives, leaves, slotAfter, newSlot, stepBySlots}
+use Rattle.machine.proofs.BySlots.{standing, goes, occupied, storeInMEM, nextIn, movesIn, movesAt, freeAt, moves-at, free-at, stageBefore, arrives, leaves, slotAfter, newSlot, stepBySlots}
 use Rattle.machine.proofs.Masks.{bits, maskOf, mask-bits, goes-post, occupied-post}
 use Rattle.moving.specs.declared.moving.Bits.{Bits}
 use Rattle.moving.specs.Bits.{bitsOf}
@@ -131,15 +131,15 @@ module _ (trace : Trace) (s : State) where
     nobody-leaves k n =
         sym (by-starts k) ∙ moves-at (starts trace s) (occupied trace s) (storeInMEM trace s) k n ∙ and-failed-l _ _ (idle k)
 
-    slot-stays : (k : Stage) → leaves trace s (before k) ≡ false → leaves trace s k ≡ false → stays (slot s k) ≡ newSlot trace s k
+    slot-stays : (k : Stage) → leaves trace s (stageBefore k) ≡ false → leaves trace s k ≡ false → stays (slot s k) ≡ newSlot trace s k
     unfolding newSlot slotAfter arrives
     slot-stays k b l =
-        let coming = standing trace s (before k) .index in
+        let coming = standing trace s (stageBefore k) .index in
         let a = and-failed-l _ _ b in
         λ i. slotAfter (sym a i) coming (entry (instruction trace coming) k) (sym l i) (slot s k)
 
     pub standstill-is : standstill s ≡ stepBySlots trace s
-    unfolding before
+    unfolding stageBefore
     standstill-is =
         state-is trace s
         (ap (λ (b : Bool). cond b (suc (s .fetched)) (s .fetched)) (sym (nobody-leaves pre refl)))

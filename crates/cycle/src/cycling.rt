@@ -21,7 +21,7 @@ use moving::leaving;
 use moving::mask;
 use moving::none;
 use standing::Standing;
-use starting::going;
+use starting::starts;
 
 // Which stages are filled; pre while there is more to fetch.
 fn full(n: u32, s: State) -> Bits
@@ -118,7 +118,7 @@ pub fn cycle(n: u32, s: State, w: Standing) -> State
     requires { ⌜ s .fetched ≤ maxInstructions ⌝ }
     ensures { λ r. ⌜ ((trace : Trace) → Reads trace s w → length trace ≡ n → r ≡ stepBySlots trace s) ⌝ }
 {
-    let starting = going(n, s, w);
+    let starting = starts(n, s, w);
     if none(starting) {
         return all_stay(s);
     }

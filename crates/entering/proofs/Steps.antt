@@ -9,7 +9,7 @@ use Rattle.machine.proofs.Window.{enterIF, enterID, enterEX, enterMEM, enterLas
 use Rattle.record.specs.declared.layout.Fields.{Fields}
 use Rattle.record.specs.Rules.{instructionOf}
 use Rattle.entering.specs.Code.{windowOf}
-use Rattle.entering.specs.declared.levels.Window.{Window}
+use Rattle.entering.specs.declared.stages.Window.{Window}
 
 -- The code first joins what is known early, so that only one sum and one choice wait for the time that is known last.
 max-joins : (a b c : ℕ) → max a (max b c) ≡ max (max a b) c

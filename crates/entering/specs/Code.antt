@@ -1,6 +1,6 @@
 -- What the crate's window stands for in the theory of the schedule.
 use Rattle.machine.proofs.Window as Theory
-use Rattle.entering.specs.declared.levels.Window.{Window}
+use Rattle.entering.specs.declared.stages.Window.{Window}
 
 abbrev pub windowOf : Window → Theory.Window
 windowOf w =

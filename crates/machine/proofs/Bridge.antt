@@ -7,7 +7,7 @@ use native.Mathlib.Omega.{arith}
 use lib.ListN.{length}
 use Rattle.machine.specs.Instruction.{Trace, instruction}
 use Rattle.machine.specs.Rules.{Stage, Place, Places, entry, budget, movesWithin, moves, cycle, allPre, after}
-use Rattle.machine.proofs.Numbers.{Tri, less, equal, more, tri, Last, before, at, last}
+use Rattle.machine.proofs.Numbers.{Tri, less, equal, more, tri, Last, below, at, last}
 use Rattle.machine.proofs.Connectives.{Value, passed, failed, value, clash}
 use Rattle.machine.proofs.Schedule.{Behaviour, enters, done, starts, own}
 use Rattle.machine.proofs.Levels.{rank-stage}
@@ -80,7 +80,7 @@ module _ (trace : Trace) where
     cycle-scheduled i l = pick (last (levelAt (enters b i) t) 6 (let h = stands b t i .level in omega arith))
       where
         pick : Last (levelAt (enters b i) t) 6 → cycle trace places i ≡ scheduled b (suc t) i
-        pick (before m) = step-before-post i _ l m (stands b t i)
+        pick (below m) = step-before-post i _ l m (stands b t i)
         pick (at e) = step-at-post i _ l e (stands b t i)
 
 pub bridge : (trace : Trace) (t i : ℕ) → i < length trace → after trace t i ≡ scheduled (behaviour trace) t i

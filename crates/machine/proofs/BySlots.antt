@@ -106,15 +106,15 @@ unfoldable pub leaves : Trace → State → Stage → Bool
 leaves trace s k = movesAt (goes trace s) (occupied trace s) (storeInMEM trace s) k
 
 -- the stage before another; nothing comes into pre
-unfoldable pub before : Stage → Stage
-before pre = post
-before IF = pre
-before ID = IF
-before EX = ID
-before MEM = EX
-before ST = MEM
-before WB = MEM
-before post = post
+unfoldable pub stageBefore : Stage → Stage
+stageBefore pre = post
+stageBefore IF = pre
+stageBefore ID = IF
+stageBefore EX = ID
+stageBefore MEM = EX
+stageBefore ST = MEM
+stageBefore WB = MEM
+stageBefore post = post
 
 -- a store goes from MEM to ST, any other kind to WB
 unfoldable pub takes : Bool → Stage → Bool
@@ -128,7 +128,7 @@ takes inMEM WB = not inMEM
 takes inMEM post = false
 
 unfoldable pub arrives : Trace → State → Stage → Bool
-arrives trace s k = leaves trace s (before k) and takes (storeInMEM trace s) k
+arrives trace s k = leaves trace s (stageBefore k) and takes (storeInMEM trace s) k
 
 -- a slot after the cycle: what comes in, else what stays, its count less 1, else nothing
 unfoldable pub slotAfter : Bool → ℕ → ℕ → Bool → Slot → Slot
@@ -138,7 +138,7 @@ slotAfter false index count gone old =
 
 unfoldable pub newSlot : Trace → State → Stage → Slot
 newSlot trace s k =
-    let coming = standing trace s (before k) .index in
+    let coming = standing trace s (stageBefore k) .index in
     slotAfter (arrives trace s k) coming (entry (instruction trace coming) k) (leaves trace s k) (slot s k)
 
 unfoldable pub stepBySlots : Trace → State → State

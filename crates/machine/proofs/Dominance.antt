@@ -4,7 +4,7 @@ use Prim.Native.Nat.{ℕ, zero, suc, _≤_, _<_}
 use mathlib.Core.Bool.{Bool, true, cond}
 use mathlib.Core.Path.{_≡_, sym, ap, subst, _∙_}
 use native.Mathlib.Omega.{arith}
-use Rattle.machine.proofs.Numbers.{Last, before, at, last}
+use Rattle.machine.proofs.Numbers.{Last, below, at, last}
 use Rattle.machine.proofs.Connectives.{Value, passed, failed, value, clash}
 use Rattle.machine.proofs.Schedule.{Behaviour, shares, shares-early, enters, done, own, share}
 
@@ -27,7 +27,7 @@ le-previous b zero j s l p m = absurd (omega arith)
 le-previous b (suc k) j s l p m = pick (last j k l)
   where
     pick : Last j k → enters b j (suc s) ≤ enters b k (suc s)
-    pick (before h) = let q = share-early b k j s h p m in let r = own b k s in omega arith
+    pick (below h) = let q = share-early b k j s h p m in let r = own b k s in omega arith
     pick (at e) = subst (λ (x : ℕ). enters b j (suc s) ≤ enters b x (suc s)) e (omega arith)
 
 pub previous-le : (b : Behaviour) (k s : ℕ) → 0 < s → s < 5 → previous b k (suc s) ≤ enters b k s
@@ -60,7 +60,7 @@ le-last-done b test s p h zero j l e = absurd (omega arith)
 le-last-done b test s p h (suc k) j l e = pick (le-last-done b test s p h k j) (last j k l) (value (test k))
   where
     pick : (j < k → test j ≡ true → done b j s ≤ lastDone b test s k) → Last j k → Value (test k) → done b j s ≤ cond (test k) (done b k s) (lastDone b test s k)
-    pick ih (before m) (passed f) = rw f (let q = own b j s in let r = share-level b k j s m p (h k j f e) in omega arith)
-    pick ih (before m) (failed f) = rw f (ih m e)
+    pick ih (below m) (passed f) = rw f (let q = own b j s in let r = share-level b k j s m p (h k j f e) in omega arith)
+    pick ih (below m) (failed f) = rw f (ih m e)
     pick ih (at g) (passed f) = rw f (subst (λ (x : ℕ). done b j s ≤ done b x s) g (omega arith))
     pick ih (at g) (failed f) = clash (ap test (sym g) ∙ e) f

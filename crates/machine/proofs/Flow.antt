@@ -13,7 +13,7 @@ use Rattle.machine.specs.declared.Slot.{Slot}
 use Rattle.machine.specs.declared.State.{State}
 use Rattle.machine.proofs.Connectives.{clash, Value, passed, failed, value, and-l, and-r, and-true, or-else, implies}
 use Rattle.machine.proofs.Stages.{same-stage, inside, inside-not-post}
-use Rattle.machine.proofs.BySlots.{standing, goes, occupied, storeInMEM, nextIn, movesIn, movesAt, freeAt, moves-at, free-at, leaves, before, takes, arrives, slotAfter, newSlot, stepBySlots}
+use Rattle.machine.proofs.BySlots.{standing, goes, occupied, storeInMEM, nextIn, movesIn, movesAt, freeAt, moves-at, free-at, leaves, stageBefore, takes, arrives, slotAfter, newSlot, stepBySlots}
 use Rattle.machine.proofs.Moving.{standing-slot}
 
 -- a slot after the cycle, by what happened to it
@@ -23,8 +23,8 @@ pub data After (trace : Trace) (s : State) (k : Stage) : Slot → Type 0 where
       After trace s k
       (record {
         filled = true;
-        index = standing trace s (before k) .index;
-        count = entry (instruction trace (standing trace s (before k) .index)) k;
+        index = standing trace s (stageBefore k) .index;
+        count = entry (instruction trace (standing trace s (stageBefore k) .index)) k;
       })
   stayed :
       arrives trace s k ≡ false →
@@ -33,8 +33,8 @@ pub data After (trace : Trace) (s : State) (k : Stage) : Slot → Type 0 where
       After trace s k (record { filled = true; index = slot s k .index; count = slot s k .count - 1 })
   vacant : arrives trace s k ≡ false → slot s k .filled and not (leaves trace s k) ≡ false → After trace s k emptySlot
 
-pub takes-next : (inMEM : Bool) (k : Stage) → takes inMEM k ≡ true → nextIn inMEM (before k) ≡ k
-unfolding takes nextIn before
+pub takes-next : (inMEM : Bool) (k : Stage) → takes inMEM k ≡ true → nextIn inMEM (stageBefore k) ≡ k
+unfolding takes nextIn stageBefore
 takes-next inMEM pre e = clash e refl
 takes-next inMEM IF e = refl
 takes-next inMEM ID e = refl
@@ -79,7 +79,7 @@ module _ (trace : Trace) (s : State) where
   pub arrives-free : (k : Stage) → inside k ≡ true → arrives trace s k ≡ true → slot s k .filled ≡ true → leaves trace s k ≡ true
   unfolding arrives leaves occupied free
   arrives-free k w a f =
-      let e = and-r _ _ (leaves-both (before k) (and-l _ _ a)) in
+      let e = and-r _ _ (leaves-both (stageBefore k) (and-l _ _ a)) in
       let into = subst (λ (k : Stage). free k ≡ true) (takes-next (storeInMEM trace s) k (and-r _ _ a)) e in
       implies _ _
       (or-else _ _ (sym (free-at (goes trace s) (occupied trace s) (storeInMEM trace s) k) ∙ into) (inside-not-post k w))
@@ -129,18 +129,18 @@ module _ (trace : Trace) (s : State) where
       (k : Stage) →
       inside k ≡ true →
       takes (storeInMEM trace s) k ≡ true →
-      bit (newSlot trace s k .filled) + bit (leaves trace s k) ≡ bit (slot s k .filled) + bit (leaves trace s (before k))
+      bit (newSlot trace s k .filled) + bit (leaves trace s k) ≡ bit (slot s k .filled) + bit (leaves trace s (stageBefore k))
   unfolding arrives
   passes k w t =
       slot-balance k w
-      ∙ ap (λ (b : Bool). bit (slot s k .filled) + bit b) (ap (λ (b : Bool). leaves trace s (before k) and b) t ∙ and-true _)
+      ∙ ap (λ (b : Bool). bit (slot s k .filled) + bit b) (ap (λ (b : Bool). leaves trace s (stageBefore k) and b) t ∙ and-true _)
 
   -- the number of filled slots before a stage, before and after the cycle
   pub younger-after :
       (k : Stage) →
       inside k ≡ true →
-      younger (stepBySlots trace s) k + bit (leaves trace s (before k)) ≡ younger s k + bit (leaves trace s pre)
-  unfolding stepBySlots younger before takes
+      younger (stepBySlots trace s) k + bit (leaves trace s (stageBefore k)) ≡ younger s k + bit (leaves trace s pre)
+  unfolding stepBySlots younger stageBefore takes
   younger-after pre w = clash w refl
   younger-after IF w = refl
   younger-after ID w = passes IF refl refl

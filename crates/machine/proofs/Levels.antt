@@ -5,7 +5,7 @@ use mathlib.Core.Path.{_≡_, refl, sym, subst, ap, _∙_}
 use native.Mathlib.Omega.{arith}
 use Rattle.machine.specs.Instruction.{Kind}
 use Rattle.machine.specs.Rules.{Stage, pre, IF, ID, EX, MEM, ST, WB, post, next, rank, same, isStore}
-use Rattle.machine.proofs.Numbers.{Last, before, at, last}
+use Rattle.machine.proofs.Numbers.{Last, below, at, last}
 use Rattle.machine.proofs.Stages.{same-stage, stage-same, stages-differ}
 use Rattle.machine.proofs.Doing.{after-MEM}
 use Rattle.machine.proofs.Schedule.{Behaviour, shares, Together, early, late, together, shares-early, shares-last}
@@ -74,7 +74,7 @@ pub same-shares : (b : Behaviour) (i j s : ℕ) → s ≤ 5 → same (stageAlong
 same-shares b i j s l e = pick (last s 5 (omega arith))
   where
     pick : Last s 5 → shares b i j s ≡ true
-    pick (before m) = shares-early b i j s m
+    pick (below m) = shares-early b i j s m
     pick (at f) =
         let g : stageAlong (b .lane j) s ≡ stageAlong (b .lane i) s = same-stage (stageAlong (b .lane j) s) (stageAlong (b .lane i) s) e in
         let g5 : stageAlong (b .lane j) 5 ≡ stageAlong (b .lane i) 5 = subst (λ (x : ℕ). stageAlong (b .lane j) x ≡ stageAlong (b .lane i) x) f g in

@@ -1,4 +1,4 @@
--- The cycle by slots, for code that numbers the stages as levels, pre 0 to post 7, and keeps one bit for each in a number.
+-- The cycle by slots, for code that numbers the stages, pre 0 to post 7, and keeps one bit for each in a mask.
 use Prim.Native.Nat.{ℕ, zero, suc, _+_, _*_, _^_, _/_, _%_, _≤_, _<_}
 use native.Mathlib.Omega.{arith}
 use mathlib.Core.Bool.{Bool, true, false, not, cond}
@@ -9,28 +9,28 @@ use Rattle.machine.specs.Instruction.{Kind, Trace}
 use Rattle.machine.specs.Rules.{Stage, pre, IF, ID, EX, MEM, ST, WB, post, same, further, shortOf}
 use Rattle.machine.specs.declared.State.{State}
 use Rattle.machine.proofs.Connectives.{true-and, or-l, or-r, and-failed-l}
-use Rattle.machine.proofs.Stages.{level, stageAt, eight}
+use Rattle.machine.proofs.Stages.{stageNumber, stageAt, eight}
 use Rattle.machine.proofs.Doing.{Does, holding, loading, storing, nothing, does}
 use Rattle.machine.proofs.Hazards.{goalOf, goal, pendingTo, pending}
 use Rattle.machine.proofs.BySlots.{standing, goes, occupied, nextIn, movesAt, freeAt, moves-at, free-at}
 use Rattle.machine.proofs.Flow.{bit}
 
--- the level after another, given whether MEM holds a store
-abbrev pub nextLevel : Bool → ℕ → ℕ
-nextLevel inMEM at = cond (eqb at 4) (cond inMEM 5 6) (cond (eqb at 5) 7 (at + 1))
+-- the number of the stage after another, given whether MEM holds a store
+abbrev pub nextNumber : Bool → ℕ → ℕ
+nextNumber inMEM at = cond (eqb at 4) (cond inMEM 5 6) (cond (eqb at 5) 7 (at + 1))
 
--- the level's bit of a mask, and a mask's bits by stage
+-- a stage's bit of a mask, by its number, and a mask's bits by stage
 abbrev pub bitAt : ℕ → ℕ → Bool
 bitAt mask at = eqb (mask / 2 ^ at % 2) 1
 
 abbrev pub bits : ℕ → Stage → Bool
-bits mask k = bitAt mask (level k)
+bits mask k = bitAt mask (stageNumber k)
 
 -- the mask of seven bits, pre to WB
 abbrev pub maskOf : (Stage → Bool) → ℕ
 maskOf f = bit (f pre) + 2 * bit (f IF) + 4 * bit (f ID) + 8 * bit (f EX) + 16 * bit (f MEM) + 32 * bit (f ST) + 64 * bit (f WB)
 
--- a fact that holds for each of the eight levels
+-- a fact that holds for each of the eight numbers
 upTo : (P : ℕ → Type 0) → P 0 → P 1 → P 2 → P 3 → P 4 → P 5 → P 6 → P 7 → (n : ℕ) → n ≤ 7 → P n
 upTo P a b c d e f g h zero l = a
 upTo P a b c d e f g h (suc zero) l = b
@@ -42,16 +42,16 @@ upTo P a b c d e f g h (suc (suc (suc (suc (suc (suc zero)))))) l = g
 upTo P a b c d e f g h (suc (suc (suc (suc (suc (suc (suc zero))))))) l = h
 upTo P a b c d e f g h (suc (suc (suc (suc (suc (suc (suc (suc n)))))))) l = absurd (omega arith)
 
-pub level-stage : (n : ℕ) → n ≤ 7 → level (stageAt n) ≡ n
-level-stage = upTo (λ n. level (stageAt n) ≡ n) refl refl refl refl refl refl refl refl
+pub number-stage : (n : ℕ) → n ≤ 7 → stageNumber (stageAt n) ≡ n
+number-stage = upTo (λ n. stageNumber (stageAt n) ≡ n) refl refl refl refl refl refl refl refl
 
 from-MEM : (inMEM : Bool) → cond inMEM ST WB ≡ stageAt (cond inMEM 5 6)
 from-MEM true = refl
 from-MEM false = refl
 
-pub next-level : (inMEM : Bool) (n : ℕ) → n ≤ 7 → nextIn inMEM (stageAt n) ≡ stageAt (nextLevel inMEM n)
+pub next-number : (inMEM : Bool) (n : ℕ) → n ≤ 7 → nextIn inMEM (stageAt n) ≡ stageAt (nextNumber inMEM n)
 unfolding nextIn
-next-level inMEM = upTo (λ n. nextIn inMEM (stageAt n) ≡ stageAt (nextLevel inMEM n)) refl refl refl refl (from-MEM inMEM) refl refl refl
+next-number inMEM = upTo (λ n. nextIn inMEM (stageAt n) ≡ stageAt (nextNumber inMEM n)) refl refl refl refl (from-MEM inMEM) refl refl refl
 
 not-post : (n : ℕ) → n < 7 → same (stageAt n) post ≡ false
 not-post n h =
@@ -63,28 +63,28 @@ not-post n h =
 
 -- "Moves" and "will be free" over masks, one law for each path through the code.
 module _ (going full : ℕ) (inMEM : Bool) (n : ℕ) (h : n < 7) where
-  at-level : (mask : ℕ) → bits mask (stageAt n) ≡ bitAt mask n
-  at-level mask = ap (bitAt mask) (level-stage n (omega arith))
+  at-number : (mask : ℕ) → bits mask (stageAt n) ≡ bitAt mask n
+  at-number mask = ap (bitAt mask) (number-stage n (omega arith))
 
   pub moves-off : bitAt going n ≡ false → movesAt (bits going) (bits full) inMEM (stageAt n) ≡ false
-  moves-off e = moves-at (bits going) (bits full) inMEM (stageAt n) (not-post n h) ∙ and-failed-l _ _ (at-level going ∙ e)
+  moves-off e = moves-at (bits going) (bits full) inMEM (stageAt n) (not-post n h) ∙ and-failed-l _ _ (at-number going ∙ e)
 
   pub moves-on :
       bitAt going n ≡ true →
-      movesAt (bits going) (bits full) inMEM (stageAt n) ≡ freeAt (bits going) (bits full) inMEM (stageAt (nextLevel inMEM n))
+      movesAt (bits going) (bits full) inMEM (stageAt n) ≡ freeAt (bits going) (bits full) inMEM (stageAt (nextNumber inMEM n))
   moves-on e =
       moves-at (bits going) (bits full) inMEM (stageAt n) (not-post n h)
-      ∙ ap₂ _and_ (at-level going ∙ e) (ap (freeAt (bits going) (bits full) inMEM) (next-level inMEM n (omega arith)))
+      ∙ ap₂ _and_ (at-number going ∙ e) (ap (freeAt (bits going) (bits full) inMEM) (next-number inMEM n (omega arith)))
       ∙ true-and _
 
   pub free-empty : bitAt full n ≡ false → freeAt (bits going) (bits full) inMEM (stageAt n) ≡ true
-  free-empty e = free-at (bits going) (bits full) inMEM (stageAt n) ∙ or-r _ _ (or-l _ _ (ap not (at-level full ∙ e)))
+  free-empty e = free-at (bits going) (bits full) inMEM (stageAt n) ∙ or-r _ _ (or-l _ _ (ap not (at-number full ∙ e)))
 
   pub free-filled : bitAt full n ≡ true → freeAt (bits going) (bits full) inMEM (stageAt n) ≡ movesAt (bits going) (bits full) inMEM (stageAt n)
   unfolding _or_
   free-filled e =
       free-at (bits going) (bits full) inMEM (stageAt n)
-      ∙ ap₂ _or_ (not-post n h) (ap (λ (b : Bool). not b or movesAt (bits going) (bits full) inMEM (stageAt n)) (at-level full ∙ e))
+      ∙ ap₂ _or_ (not-post n h) (ap (λ (b : Bool). not b or movesAt (bits going) (bits full) inMEM (stageAt n)) (at-number full ∙ e))
 
 pub free-post : (going full : ℕ) (inMEM : Bool) → freeAt (bits going) (bits full) inMEM (stageAt 7) ≡ true
 free-post going full inMEM = free-at (bits going) (bits full) inMEM post ∙ or-l _ _ refl
@@ -141,22 +141,22 @@ pub occupied-post : (trace : Trace) (s : State) → occupied trace s post ≡ fa
 unfolding occupied standing
 occupied-post trace s = refl
 
--- Pending, by levels: the level that an instruction of the kind has to reach with count 0.
-abbrev pub goalLevel : Kind → ℕ
-goalLevel kind = level (goal kind)
+-- Pending, by numbers: the stage that an instruction of the kind has to reach with count 0.
+abbrev pub goalNumber : Kind → ℕ
+goalNumber kind = stageNumber (goal kind)
 
-abbrev pub shortLevel : ℕ → ℕ → ℕ → Bool
-shortLevel goal n c = ltb n goal or (eqb n goal and ltb 0 c)
+abbrev pub shortNumber : ℕ → ℕ → ℕ → Bool
+shortNumber goal n c = ltb n goal or (eqb n goal and ltb 0 c)
 
--- for a level that has a slot
+-- for a stage that has a slot
 module _ (n c : ℕ) (l : n ≤ 7) (p : 0 < n) where
-  short-level : {h l s : Bool} → Does h l s → pendingTo (goalOf h l s) (record { stage = stageAt n; count = c }) ≡ shortLevel (level (goalOf h l s)) n c
+  short-number : {h l s : Bool} → Does h l s → pendingTo (goalOf h l s) (record { stage = stageAt n; count = c }) ≡ shortNumber (stageNumber (goalOf h l s)) n c
   unfolding shortOf further _and_ _or_
-  short-level holding = upTo (λ n. shortOf (record { stage = stageAt n; count = c }) EX 0 ≡ shortLevel 3 n c) refl refl refl refl refl refl refl refl n l
-  short-level loading = upTo (λ n. shortOf (record { stage = stageAt n; count = c }) MEM 0 ≡ shortLevel 4 n c) refl refl refl refl refl refl refl refl n l
-  short-level storing = upTo (λ n. shortOf (record { stage = stageAt n; count = c }) ST 0 ≡ shortLevel 5 n c) refl refl refl refl refl refl refl refl n l
-  short-level nothing =
-      upTo (λ n. 0 < n → false ≡ shortLevel 0 n c)
+  short-number holding = upTo (λ n. shortOf (record { stage = stageAt n; count = c }) EX 0 ≡ shortNumber 3 n c) refl refl refl refl refl refl refl refl n l
+  short-number loading = upTo (λ n. shortOf (record { stage = stageAt n; count = c }) MEM 0 ≡ shortNumber 4 n c) refl refl refl refl refl refl refl refl n l
+  short-number storing = upTo (λ n. shortOf (record { stage = stageAt n; count = c }) ST 0 ≡ shortNumber 5 n c) refl refl refl refl refl refl refl refl n l
+  short-number nothing =
+      upTo (λ n. 0 < n → false ≡ shortNumber 0 n c)
       (λ p. absurd (omega arith))
       (λ p. refl)
       (λ p. refl)
@@ -169,6 +169,6 @@ module _ (n c : ℕ) (l : n ≤ 7) (p : 0 < n) where
       l
       p
 
-  pub pending-level : (kind : Kind) → pending kind (record { stage = stageAt n; count = c }) ≡ shortLevel (goalLevel kind) n c
+  pub pending-number : (kind : Kind) → pending kind (record { stage = stageAt n; count = c }) ≡ shortNumber (goalNumber kind) n c
   unfolding pending goal
-  pending-level kind = short-level (does kind)
+  pending-number kind = short-number (does kind)

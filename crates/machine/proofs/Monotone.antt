@@ -8,7 +8,7 @@ use lib.Dec.{ltb}
 use borrow.Author.Tests.{le-ltb}
 use Rattle.machine.specs.Test.{_and_}
 use Rattle.machine.specs.Rules.{rank, same, further}
-use Rattle.machine.proofs.Numbers.{Tri, less, equal, more, tri, Last, before, at, last, by-age}
+use Rattle.machine.proofs.Numbers.{Tri, less, equal, more, tri, Last, below, at, last, by-age}
 use Rattle.machine.proofs.Connectives.{Value, passed, failed, value, and-failed-l, and-failed-r, or-failed}
 use Rattle.machine.proofs.Schedule.{Behaviour, shares, enters, done, starts, own, share, wait, least}
 use Rattle.machine.proofs.Levels.{stageAlong, rank-stage, same-level}
@@ -24,7 +24,7 @@ unfolding done
 done-mono b j h k l = pick (last h k (omega arith))
   where
     pick : Last h k → done b j h ≤ done b j k
-    pick (before m) = let p = enters-before b j h k m in omega arith
+    pick (below m) = let p = enters-before b j h k m in omega arith
     pick (at e) = subst (λ (x : ℕ). done b j h ≤ done b j x) e (omega arith)
 
 -- the same pairs of instructions share a stage

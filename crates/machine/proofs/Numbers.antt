@@ -22,17 +22,17 @@ tri (suc a) (suc c) = up (tri a c)
 
 -- a number below suc n is below n or is n
 pub data Last (k n : ℕ) : Type 0 where
-  before : k < n → Last k n
+  below : k < n → Last k n
   at : k ≡ n → Last k n
 
 pub last : (k n : ℕ) → k < suc n → Last k n
 last zero zero h = at refl
-last zero (suc n) h = before (omega arith)
+last zero (suc n) h = below (omega arith)
 last (suc k) zero h = absurd (omega arith)
 last (suc k) (suc n) h = up (last k n (omega arith))
   where
     up : Last k n → Last (suc k) (suc n)
-    up (before l) = before (omega arith)
+    up (below l) = below (omega arith)
     up (at e) = at (omega arith)
 
 -- strong induction
@@ -59,7 +59,7 @@ le-greatest base f zero k l = absurd (omega arith)
 le-greatest base f (suc n) k l = pick (le-greatest base f n k) (last k n l)
   where
     pick : (k < n → f k ≤ greatest base f n) → Last k n → f k ≤ max (greatest base f n) (f n)
-    pick ih (before m) = let h = ih m in omega arith
+    pick ih (below m) = let h = ih m in omega arith
     pick ih (at e) = subst (λ (x : ℕ). f x ≤ max (greatest base f n) (f n)) (sym e) (omega arith)
 
 -- the same with a number added on the left, so that no subtraction is needed where two times are compared
@@ -89,7 +89,7 @@ sum-grows f g h zero (suc n) l = absurd (omega arith)
 sum-grows f g h (suc m) n l = pick (sum-grows f g h m n) (last n (suc m) (omega arith))
   where
     pick : (n ≤ m → sum f m + sum g n ≤ sum g m + sum f n) → Last n (suc m) → sum f (suc m) + sum g n ≤ sum g (suc m) + sum f n
-    pick ih (before k) = let a = ih (omega arith) in let b = h m in omega arith
+    pick ih (below k) = let a = ih (omega arith) in let b = h m in omega arith
     pick ih (at e) = subst (λ (x : ℕ). sum f (suc m) + sum g x ≤ sum g (suc m) + sum f x) (sym e) (omega arith)
 
 pub sum-mono : (f : ℕ → ℕ) (m n : ℕ) → n ≤ m → sum f n ≤ sum f m
@@ -99,7 +99,7 @@ sum-mono f zero (suc n) l = absurd (omega arith)
 sum-mono f (suc m) n l = pick (sum-mono f m n) (last n (suc m) (omega arith))
   where
     pick : (n ≤ m → sum f n ≤ sum f m) → Last n (suc m) → sum f n ≤ sum f (suc m)
-    pick ih (before k) = let a = ih (omega arith) in omega arith
+    pick ih (below k) = let a = ih (omega arith) in omega arith
     pick ih (at e) = subst (λ (x : ℕ). sum f x ≤ sum f (suc m)) (sym e) (omega arith)
 
 -- the first value taken out of the sum

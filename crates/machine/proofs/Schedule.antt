@@ -8,7 +8,7 @@ use lib.Dec.{ltb, eqb}
 use borrow.Author.Tests.{lt-ltb, ltb-true, eq-eqb, ne-eqb, eqb-true}
 use Rattle.machine.specs.Test.{_and_, _or_}
 use Rattle.machine.proofs.Connectives.{Value, passed, failed, value, and-l, and-r, and-both, or-l, or-r, or-else}
-use Rattle.machine.proofs.Numbers.{Last, before, at, last, greatest, base-greatest, le-greatest, greatest-le, greatest-same}
+use Rattle.machine.proofs.Numbers.{Last, below, at, last, greatest, base-greatest, le-greatest, greatest-le, greatest-same}
 
 -- The behaviour of a trace's instructions: the entry count of an instruction at a level; whether its last stage is ST; and the level that an older
 -- instruction j must have reached with count 0 before instruction i, at a level, is ready. Level 0 means no waiting, since nothing is short of it.
@@ -54,7 +54,7 @@ table-is b zero j s l = absurd (omega arith)
 table-is b (suc n) j s l = pick (table-is b n j s) (last j n l)
   where
     pick : (j < n → table b n j s ≡ enters b j s) → Last j n → table b (suc n) j s ≡ enters b j s
-    pick ih (before m) = rw (ne-eqb j n (λ e. omega arith)) (ih m)
+    pick ih (below m) = rw (ne-eqb j n (λ e. omega arith)) (ih m)
     pick ih (at e) = rw e (rw (eq-eqb n n refl))
 
 -- the equation that the schedule solves

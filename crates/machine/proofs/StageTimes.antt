@@ -8,7 +8,7 @@ use native.Mathlib.Omega.{arith}
 use Rattle.machine.specs.Test.{_and_}
 use Rattle.machine.specs.Instruction.{Instruction, Trace, instruction}
 use Rattle.machine.specs.Rules.{IF, EX, MEM, isLoad, isStore, entry, reads, missesData}
-use Rattle.machine.proofs.Numbers.{Last, before, at, last}
+use Rattle.machine.proofs.Numbers.{Last, below, at, last}
 use Rattle.machine.proofs.Connectives.{Value, passed, failed, value, and-l, and-r, and-both}
 use Rattle.machine.proofs.Schedule.{Behaviour, shares, Together, early, late, together, shares-last, enters, done, own, share, wait, least}
 use Rattle.machine.proofs.Hazards.{load-goal, store-goal, waitsFor}
@@ -53,7 +53,7 @@ module _ (trace : Trace) where
     where
       pick : Last j k → done b j 4
           ≤ max (enters b k 4) (cond (reads (instruction trace (suc k)) (cond (isLoad (instruction trace k .kind)) (instruction trace k .target) 0)) (loads trace (suc k)) 0)
-      pick (before h) = let p = own b j 4 in let q = share-early b k j 4 h (omega arith) (omega arith) in omega arith
+      pick (below h) = let p = own b j 4 in let q = share-early b k j 4 h (omega arith) (omega arith) in omega arith
       pick (at h) =
           let g : isLoad (instruction trace k .kind) ≡ true = subst (λ (x : ℕ). isLoad (instruction trace x .kind) ≡ true) h e in
           let r : reads (instruction trace (suc k)) (instruction trace k .target) ≡ true = subst (λ (x : ℕ). reads (instruction trace (suc k)) (instruction trace x .target) ≡ true) h f in

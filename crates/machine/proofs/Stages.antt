@@ -5,10 +5,10 @@ use mathlib.Core.Bool.{Bool, true, false}
 use mathlib.Core.Path.{_≡_, refl, sym, ap, _∙_}
 use borrow.Author.Tests.{eqb-true, eq-eqb, ne-eqb}
 use Rattle.machine.specs.Rules.{Stage, pre, IF, ID, EX, MEM, ST, WB, post, rank, same}
-pub use Rattle.machine.specs.Rules.{level}
+pub use Rattle.machine.specs.Rules.{stageNumber}
 use Rattle.machine.proofs.Connectives.{clash}
 
--- levels past 7 do not occur
+-- numbers past 7 do not occur
 abbrev pub stageAt : ℕ → Stage
 stageAt zero = pre
 stageAt (suc zero) = IF
@@ -30,17 +30,17 @@ eight P a b c d e f g h ST = f
 eight P a b c d e f g h WB = g
 eight P a b c d e f g h post = h
 
-pub stage-level : (a : Stage) → stageAt (level a) ≡ a
-stage-level = eight (λ a. stageAt (level a) ≡ a) refl refl refl refl refl refl refl refl
+pub stage-number : (a : Stage) → stageAt (stageNumber a) ≡ a
+stage-number = eight (λ a. stageAt (stageNumber a) ≡ a) refl refl refl refl refl refl refl refl
 
 pub same-stage : (a b : Stage) → same a b ≡ true → a ≡ b
-same-stage a b e = sym (stage-level a) ∙ ap stageAt (eqb-true (level a) (level b) e) ∙ stage-level b
+same-stage a b e = sym (stage-number a) ∙ ap stageAt (eqb-true (stageNumber a) (stageNumber b) e) ∙ stage-number b
 
 pub stage-same : (a b : Stage) → a ≡ b → same a b ≡ true
-stage-same a b e = eq-eqb (level a) (level b) (ap level e)
+stage-same a b e = eq-eqb (stageNumber a) (stageNumber b) (ap stageNumber e)
 
 pub stages-differ : (a b : Stage) → ¬ (a ≡ b) → same a b ≡ false
-stages-differ a b h = ne-eqb (level a) (level b) (λ e. h (same-stage a b (eq-eqb (level a) (level b) e)))
+stages-differ a b h = ne-eqb (stageNumber a) (stageNumber b) (λ e. h (same-stage a b (eq-eqb (stageNumber a) (stageNumber b) e)))
 
 -- the stages that have a slot
 abbrev pub inside : Stage → Bool

@@ -8,7 +8,7 @@ use lib.Dec.{leb, ltb}
 use borrow.Author.Tests.{leb-true, leb-false, le-leb, lt-leb, ltb-true, ltb-false, lt-ltb, le-ltb}
 use Rattle.machine.specs.Test.{_and_, _or_}
 use Rattle.machine.specs.Rules.{pre, post, rank, same, Place, Places, further, shortOf}
-use Rattle.machine.proofs.Numbers.{Tri, less, equal, more, tri, Last, before, at, last}
+use Rattle.machine.proofs.Numbers.{Tri, less, equal, more, tri, Last, below, at, last}
 use Rattle.machine.proofs.Connectives.{Value, passed, failed, value, and-failed-l, or-l, or-failed, or-left, and-left}
 use Rattle.machine.proofs.Stages.{stage-same}
 use Rattle.machine.proofs.Schedule.{Behaviour, enters, done, starts, own}
@@ -21,7 +21,7 @@ enters-before b i s zero l = absurd (omega arith)
 enters-before b i s (suc u) l = pick (enters-before b i s u) (last s u l)
   where
     pick : (s < u → done b i s ≤ enters b i u) → Last s u → done b i s ≤ enters b i (suc u)
-    pick ih (before m) = let p = ih m in let q = own b i u in omega arith
+    pick ih (below m) = let p = ih m in let q = own b i u in omega arith
     pick ih (at e) = subst (λ (x : ℕ). done b i x ≤ enters b i (suc u)) (sym e) (own b i u)
 
 -- after t cycles i is at level s
@@ -51,7 +51,7 @@ stays-past : {times : ℕ → ℕ} {t s l : ℕ} → UpTo times t s l → leb (t
 stays-past {times} {t} {s} {l} u e m = pick (last l s m)
   where
     pick : Last l s → t < times (suc l)
-    pick (before n) = u .stays n
+    pick (below n) = u .stays n
     pick (at f) = subst (λ (x : ℕ). t < times (suc x)) (sym f) (leb-false (times (suc s)) t e)
 
 up-to : (times : ℕ → ℕ) (t s : ℕ) → times 0 ≤ t → UpTo times t s (levelUpTo times t s)
@@ -75,7 +75,7 @@ unfolding done
 not-yet {b} {t} {i} {s} st u l m = pick (last (suc s) u (omega arith))
   where
     pick : Last (suc s) u → t < enters b i u
-    pick (before k) = let p = st .stays (omega arith) in let q = enters-before b i (suc s) u k in omega arith
+    pick (below k) = let p = st .stays (omega arith) in let q = enters-before b i (suc s) u k in omega arith
     pick (at e) = subst (λ (x : ℕ). t < enters b i x) e (st .stays (omega arith))
 
 pub already : {b : Behaviour} {t i s : ℕ} → Stands b t i s → (u : ℕ) → u ≤ s → enters b i u ≤ t
@@ -83,7 +83,7 @@ unfolding done
 already {b} {t} {i} {s} st u l = pick (last u s (omega arith))
   where
     pick : Last u s → enters b i u ≤ t
-    pick (before k) = let p = st .entered in let q = enters-before b i u s k in omega arith
+    pick (below k) = let p = st .entered in let q = enters-before b i u s k in omega arith
     pick (at e) = subst (λ (x : ℕ). enters b i x ≤ t) (sym e) (st .entered)
 
 -- so an instruction is at one level only
@@ -145,7 +145,7 @@ unfolding standing
 in-post-level {b} {t} {j} {l} st = pick (last l 6 (let h = st .level in omega arith))
   where
     pick : Last l 6 → same (stageAlong (b .lane j) l) post ≡ leb (enters b j 6) t
-    pick (before m) =
+    pick (below m) =
         other-level (b .lane j) true l 6 (st .level) (omega arith) (omega arith)
         ∙ sym (lt-leb (enters b j 6) t (not-yet st 6 m (omega arith)))
     pick (at e) =

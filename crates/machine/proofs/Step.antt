@@ -17,18 +17,18 @@ use Rattle.machine.proofs.Connectives.{clash, Value, passed, failed, va
 use Rattle.machine.proofs.Stages.{inside}
 use Rattle.machine.proofs.Places.{state-agrees}
 use Rattle.machine.proofs.Spots.{Spot, waiting, held, left, spot, slot-inside, place-waiting, places-give-state}
-use Rattle.machine.proofs.BySlots.{standing, storeInMEM, nextIn, leaves, before, takes, arrives, newSlot, stepBySlots}
+use Rattle.machine.proofs.BySlots.{standing, storeInMEM, nextIn, leaves, stageBefore, takes, arrives, newSlot, stepBySlots}
 use Rattle.machine.proofs.Moving.{standing-slot, standing-place, standing-next, moves-by-slots, waiting-stays, left-stays}
 use Rattle.machine.proofs.Flow.{After, came, stayed, vacant, after-cycle, takes-next, leaves-filled, arrives-free, bit, fetched-after}
 use Rattle.machine.proofs.StepOrderly.{step-keeps-orderly}
 
 -- what comes after a stage: a stage with a slot, which it leads to, or post
 data Onward (inMEM : Bool) (k : Stage) : Type 0 where
-  into : inside (nextIn inMEM k) ≡ true → before (nextIn inMEM k) ≡ k → takes inMEM (nextIn inMEM k) ≡ true → Onward inMEM k
+  into : inside (nextIn inMEM k) ≡ true → stageBefore (nextIn inMEM k) ≡ k → takes inMEM (nextIn inMEM k) ≡ true → Onward inMEM k
   out : nextIn inMEM k ≡ post → Onward inMEM k
 
 onward : (inMEM : Bool) (k : Stage) → Onward inMEM k
-unfolding nextIn before takes
+unfolding nextIn stageBefore takes
 onward inMEM pre = into refl refl refl
 onward inMEM IF = into refl refl refl
 onward inMEM ID = into refl refl refl
@@ -89,8 +89,8 @@ module _ (trace : Trace) (s : State) (o : Orderly trace s) where
       cycle trace (placeOf s) (new .index) ≡ record { stage = k; count = new .count }
   unfolding arrives
   slot-place k w (came a) f =
-      goes-on (before k) (and-l _ _ a)
-      ∙ ap (entering trace (standing trace s (before k) .index)) (takes-next (storeInMEM trace s) k (and-r _ _ a))
+      goes-on (stageBefore k) (and-l _ _ a)
+      ∙ ap (entering trace (standing trace s (stageBefore k) .index)) (takes-next (storeInMEM trace s) k (and-r _ _ a))
   slot-place k w (stayed a g l) f =
       let q = standing-slot trace s k w in
       subst (λ (r : Slot). cycle trace (placeOf s) (r .index) ≡ record { stage = k; count = r .count - 1 }) q
@@ -111,9 +111,9 @@ module _ (trace : Trace) (s : State) (o : Orderly trace s) where
   stays-in k w f l (stayed a g m) = and-both _ _ refl (eq-eqb (slot s k .index) (slot s k .index) refl)
   stays-in k w f l (vacant a e) = clash (and-both _ _ f (ap not l)) e
 
-  comes-in : (k : Stage) → arrives trace s k ≡ true → {new : Slot} → After trace s k new → holds new (standing trace s (before k) .index) ≡ true
+  comes-in : (k : Stage) → arrives trace s k ≡ true → {new : Slot} → After trace s k new → holds new (standing trace s (stageBefore k) .index) ≡ true
   unfolding holds
-  comes-in k a (came b) = and-both _ _ refl (eq-eqb (standing trace s (before k) .index) (standing trace s (before k) .index) refl)
+  comes-in k a (came b) = and-both _ _ refl (eq-eqb (standing trace s (stageBefore k) .index) (standing trace s (stageBefore k) .index) refl)
   comes-in k a (stayed b g m) = clash a b
   comes-in k a (vacant b e) = clash a b
 

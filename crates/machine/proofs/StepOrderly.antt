@@ -15,13 +15,13 @@ use Rattle.machine.specs.declared.State.{State}
 use Rattle.machine.proofs.Connectives.{clash, Value, passed, failed, value, and-l, and-r, and-both, and-true, or-failed, and-failed-r, or-l}
 use Rattle.machine.proofs.Stages.{eight, inside}
 use Rattle.machine.proofs.Hazards.{waitsFor}
-use Rattle.machine.proofs.BySlots.{standing, holdsBack, heldBack, goes, occupied, storeInMEM, nextIn, moves-at, free-at, leaves, before, takes, arrives, stepBySlots}
+use Rattle.machine.proofs.BySlots.{standing, holdsBack, heldBack, goes, occupied, storeInMEM, nextIn, moves-at, free-at, leaves, stageBefore, takes, arrives, stepBySlots}
 use Rattle.machine.proofs.Flow.{After, came, stayed, vacant, after-cycle, leaves-filled, bit, fetched-after, younger-after}
 
 module _ (trace : Trace) (s : State) (o : Orderly trace s) where
   -- the instruction in the stage before k is the youngest that no slot before that stage holds
-  source : (k : Stage) → inside k ≡ true → standing trace s (before k) .filled ≡ true → standing trace s (before k) .index + younger s k ≡ s .fetched
-  unfolding standing before younger
+  source : (k : Stage) → inside k ≡ true → standing trace s (stageBefore k) .filled ≡ true → standing trace s (stageBefore k) .index + younger s k ≡ s .fetched
+  unfolding standing stageBefore younger
   source pre w f = clash w refl
   source IF w f = omega arith
   source ID w f = rw f (let e = o .inIF .index f in omega arith)
@@ -35,11 +35,11 @@ module _ (trace : Trace) (s : State) (o : Orderly trace s) where
       (k : Stage) →
       inside k ≡ true →
       arrives trace s k ≡ true →
-      standing trace s (before k) .index + younger (stepBySlots trace s) k + 1 ≡ stepBySlots trace s .fetched
+      standing trace s (stageBefore k) .index + younger (stepBySlots trace s) k + 1 ≡ stepBySlots trace s .fetched
   unfolding arrives
   came-turn k w a =
       let l = and-l _ _ a in
-      let here = source k w (leaves-filled trace s (before k) l) in
+      let here = source k w (leaves-filled trace s (stageBefore k) l) in
       let moved = younger-after trace s k w in
       let one = ap bit l in
       let all = fetched-after trace s in
@@ -48,7 +48,7 @@ module _ (trace : Trace) (s : State) (o : Orderly trace s) where
   stayed-turn :
       (k : Stage) →
       inside k ≡ true →
-      leaves trace s (before k) ≡ false →
+      leaves trace s (stageBefore k) ≡ false →
       (index : ℕ) →
       index + younger s k + 1 ≡ s .fetched →
       index + younger (stepBySlots trace s) k + 1 ≡ stepBySlots trace s .fetched
@@ -61,7 +61,7 @@ module _ (trace : Trace) (s : State) (o : Orderly trace s) where
   turn-after :
       (k : Stage) →
       inside k ≡ true →
-      (arrives trace s k ≡ false → slot s k .filled ≡ true → leaves trace s k ≡ false → leaves trace s (before k) ≡ false) →
+      (arrives trace s k ≡ false → slot s k .filled ≡ true → leaves trace s k ≡ false → leaves trace s (stageBefore k) ≡ false) →
       InTurn s k →
       {new : Slot} →
       After trace s k new →
@@ -72,9 +72,9 @@ module _ (trace : Trace) (s : State) (o : Orderly trace s) where
   turn-after k w off t (vacant a e) f = clash f refl
 
   -- if nothing comes into a slot, the stage that leads to it is not left
-  shut : (k : Stage) → takes (storeInMEM trace s) k ≡ true → arrives trace s k ≡ false → leaves trace s (before k) ≡ false
+  shut : (k : Stage) → takes (storeInMEM trace s) k ≡ true → arrives trace s k ≡ false → leaves trace s (stageBefore k) ≡ false
   unfolding arrives
-  shut k t a = sym (and-true _) ∙ ap (λ (b : Bool). leaves trace s (before k) and b) (sym t) ∙ a
+  shut k t a = sym (and-true _) ∙ ap (λ (b : Bool). leaves trace s (stageBefore k) and b) (sym t) ∙ a
 
   -- an instruction in WB always moves on
   free-WB : (k : Stage) (held : Slot) → holdsBack trace WB (s .WB .index) k held ≡ false
@@ -108,13 +108,13 @@ module _ (trace : Trace) (s : State) (o : Orderly trace s) where
   in-ST (vacant a e) f = clash f refl
 
   a-store : {new : Slot} → After trace s ST new → new .filled ≡ true → isStore (instruction trace (new .index) .kind) ≡ true
-  unfolding arrives takes storeInMEM standing before
+  unfolding arrives takes storeInMEM standing stageBefore
   a-store (came a) f = and-r _ _ a
   a-store (stayed a g l) f = o .aStore g
   a-store (vacant a e) f = clash f refl
 
   no-store : {new : Slot} → After trace s WB new → new .filled ≡ true → isStore (instruction trace (new .index) .kind) ≡ false
-  unfolding arrives takes storeInMEM standing before
+  unfolding arrives takes storeInMEM standing stageBefore
   no-store (came a) f = not-true _ (and-r _ _ a)
   no-store (stayed a g l) f = o .noStore g
   no-store (vacant a e) f = clash f refl

@@ -39,18 +39,18 @@ rank WB = 5
 rank post = 6
 
 -- a number for each stage, by which two stages are compared
-abbrev pub level : Stage → ℕ
-level pre = 0
-level IF = 1
-level ID = 2
-level EX = 3
-level MEM = 4
-level ST = 5
-level WB = 6
-level post = 7
+abbrev pub stageNumber : Stage → ℕ
+stageNumber pre = 0
+stageNumber IF = 1
+stageNumber ID = 2
+stageNumber EX = 3
+stageNumber MEM = 4
+stageNumber ST = 5
+stageNumber WB = 6
+stageNumber post = 7
 
 abbrev pub same : Stage → Stage → Bool
-same a b = eqb (level a) (level b)
+same a b = eqb (stageNumber a) (stageNumber b)
 
 -- "Each instruction has a stage and a remaining count."
 pub record Place : Type 0 where

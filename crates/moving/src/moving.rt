@@ -1,12 +1,20 @@
-// Who moves: "moves" and "will be free" over two masks, a bit for each level from pre 0 to WB 6.
+// Who moves: "moves" and "will be free" over two masks, a bit for each stage from pre 0 to WB 6.
 ghost use mathlib.Core.Path.{_≡_};
 ghost use mathlib.Core.Bool.{not, _||_};
 ghost use Prim.Native.Nat.{_<_, _≤_};
 ghost use Rattle.machine.proofs.Stages.{stageAt};
 ghost use Rattle.machine.proofs.BySlots.{movesAt, freeAt};
 ghost use Rattle.machine.proofs.Flow.{bit};
-ghost use Rattle.machine.proofs.Masks.{nextLevel, bitAt, bits, maskOf};
+ghost use Rattle.machine.proofs.Masks.{nextNumber, bitAt, bits, maskOf};
 ghost use Rattle.moving.specs.Bits.{bitsOf, bitOf};
+use machine::stage::EX;
+use machine::stage::ID;
+use machine::stage::IF;
+use machine::stage::MEM;
+use machine::stage::POST;
+use machine::stage::PRE;
+use machine::stage::ST;
+use machine::stage::WB;
 
 // A bit for each stage that an instruction can move out of.
 pub struct Bits {
@@ -47,52 +55,52 @@ pub fn none(b: Bits) -> bool
     !(b.pre | b.IF | b.ID | b.EX | b.MEM | b.ST | b.WB)
 }
 
-fn bit(mask: u32, level: u32) -> bool
-    requires { ⌜ level < 8 ⌝ }
-    ensures { λ r. ⌜ r ≡ bitAt mask level ⌝ }
+fn bit(mask: u32, stage: u32) -> bool
+    requires { ⌜ stage < 8 ⌝ }
+    ensures { λ r. ⌜ r ≡ bitAt mask stage ⌝ }
 {
-    (mask >> level) % 2 == 1
+    (mask >> stage) % 2 == 1
 }
 
-// The level after another: from MEM a store goes to ST, any other kind to WB.
-fn next(store: bool, level: u32) -> u32
-    requires { ⌜ level < 7 ⌝ }
-    ensures { λ r. ⌜ (r ≡ nextLevel store level) × (level < r) × (r ≤ 7) ⌝ }
+// The stage after another: from MEM a store goes to ST, any other kind to WB.
+fn next(store: bool, stage: u32) -> u32
+    requires { ⌜ stage < 7 ⌝ }
+    ensures { λ r. ⌜ (r ≡ nextNumber store stage) × (stage < r) × (r ≤ 7) ⌝ }
 {
-    if level == 4 {
+    if stage == MEM {
         if store {
-            return 5;
+            return ST;
         }
-        return 6;
+        return WB;
     }
-    if level == 5 {
-        return 7;
+    if stage == ST {
+        return POST;
     }
-    level + 1
+    stage + 1
 }
 
 // `going` says which instructions have count 0 and are ready, `full` which stages are filled, and
 // `store` whether MEM holds a store.
-fn moves(going: u32, full: u32, store: bool, level: u32) -> bool
-    requires { ⌜ level < 7 ⌝ }
-    ensures { λ r. ⌜ r ≡ movesAt (bits going) (bits full) store (stageAt level) ⌝ }
+fn moves(going: u32, full: u32, store: bool, stage: u32) -> bool
+    requires { ⌜ stage < 7 ⌝ }
+    ensures { λ r. ⌜ r ≡ movesAt (bits going) (bits full) store (stageAt stage) ⌝ }
 {
-    if bit(going, level) {
-        let to = next(store, level);
+    if bit(going, stage) {
+        let to = next(store, stage);
         return will_be_free(going, full, store, to);
     }
     false
 }
 
-fn will_be_free(going: u32, full: u32, store: bool, level: u32) -> bool
-    requires { ⌜ level ≤ 7 ⌝ }
-    ensures { λ r. ⌜ r ≡ freeAt (bits going) (bits full) store (stageAt level) ⌝ }
+fn will_be_free(going: u32, full: u32, store: bool, stage: u32) -> bool
+    requires { ⌜ stage ≤ 7 ⌝ }
+    ensures { λ r. ⌜ r ≡ freeAt (bits going) (bits full) store (stageAt stage) ⌝ }
 {
-    if level == 7 {
+    if stage == POST {
         return true;
     }
-    if bit(full, level) {
-        return moves(going, full, store, level);
+    if bit(full, stage) {
+        return moves(going, full, store, stage);
     }
     true
 }
@@ -101,12 +109,12 @@ pub fn leaving(going: u32, full: u32, store: bool) -> Bits
     ensures { λ r. ⌜ r ≡ bitsOf (movesAt (bits going) (bits full) store) ⌝ }
 {
     Bits {
-        pre: moves(going, full, store, 0),
-        IF: moves(going, full, store, 1),
-        ID: moves(going, full, store, 2),
-        EX: moves(going, full, store, 3),
-        MEM: moves(going, full, store, 4),
-        ST: moves(going, full, store, 5),
-        WB: moves(going, full, store, 6),
+        pre: moves(going, full, store, PRE),
+        IF: moves(going, full, store, IF),
+        ID: moves(going, full, store, ID),
+        EX: moves(going, full, store, EX),
+        MEM: moves(going, full, store, MEM),
+        ST: moves(going, full, store, ST),
+        WB: moves(going, full, store, WB),
     }
 }

@@ -5,17 +5,17 @@ use mathlib.Core.Path.{_≡_, refl}
 use borrow.Author.Tests.{lt-ltb, le-ltb}
 use Rattle.machine.specs.Instruction.{Instruction}
 use Rattle.machine.specs.Rules.{IF, EX, MEM, ST, WB, isStore, entry}
-use Rattle.machine.proofs.Stages.{level}
+use Rattle.machine.proofs.Stages.{stageNumber}
 use Rattle.machine.proofs.Window.{Times, lastCount, placeAt}
 use Rattle.places.specs.Code.{numbered}
 use Rattle.places.specs.declared.places.Place.{Place}
 
 abbrev at : ℕ → ℕ → Place
-at level count = record { level = level; count = count }
+at stage count = record { stage = stage; count = count }
 
-last-level : (store : Bool) → cond store 5 6 ≡ level (cond store ST WB)
-last-level true = refl
-last-level false = refl
+last-number : (store : Bool) → cond store 5 6 ≡ stageNumber (cond store ST WB)
+last-number true = refl
+last-number false = refl
 
 module _ (i : Instruction) (e : Times) (t : ℕ) where
   abbrev place : Place
@@ -56,7 +56,7 @@ module _ (i : Instruction) (e : Times) (t : ℕ) where
                 at stage r ≡ place
             unfolding placeAt
             in-last h s l p q =
-                rw (l, q, p, s, last-level (isStore (i .kind)), le-ltb _ _ fetched, le-ltb _ _ decoded, le-ltb _ _ executed, le-ltb _ _ accessed, le-ltb _ _ ended, lt-ltb _ _ h)
+                rw (l, q, p, s, last-number (isStore (i .kind)), le-ltb _ _ fetched, le-ltb _ _ decoded, le-ltb _ _ executed, le-ltb _ _ accessed, le-ltb _ _ ended, lt-ltb _ _ h)
 
             pub in-post : e .post ≤ t → at 7 0 ≡ place
             unfolding placeAt

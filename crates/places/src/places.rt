@@ -24,7 +24,7 @@ use schedule::Times;
 // A stage and a remaining count.
 #[repr(C)]
 pub struct Place {
-    pub level: u32,
+    pub stage: u32,
     pub count: u32,
 }
 
@@ -33,42 +33,42 @@ pub fn place_at(f: Fields, e: Times, t: u32) -> Place
 {
     if t < e.IF {
         return Place {
-            level: PRE,
+            stage: PRE,
             count: 0,
         };
     }
     if t < e.ID {
         return Place {
-            level: IF,
+            stage: IF,
             count: less(count_in_if(f), t - e.IF),
         };
     }
     if t < e.EX {
         return Place {
-            level: ID,
+            stage: ID,
             count: 0,
         };
     }
     if t < e.MEM {
         return Place {
-            level: EX,
+            stage: EX,
             count: less(f.execution, t - e.EX),
         };
     }
     if t < e.last {
         return Place {
-            level: MEM,
+            stage: MEM,
             count: less(count_in_mem(f), t - e.MEM),
         };
     }
     if t < e.post {
         return Place {
-            level: choose(is_store(f), ST, WB),
+            stage: choose(is_store(f), ST, WB),
             count: less(count_in_last(f), t - e.last),
         };
     }
     Place {
-        level: POST,
+        stage: POST,
         count: 0,
     }
 }

@@ -11,7 +11,7 @@ use lib.Dec.{ltb}
 use lib.ListN.{length, getD, set, drop, length-set}
 use Rattle.machine.specs.Instruction.{Instruction}
 use Rattle.machine.specs.Rules.{Stage, pre, IF, ID, EX, MEM, ST, WB, post, Place, isStore, entry}
-use Rattle.machine.proofs.Stages.{level}
+use Rattle.machine.proofs.Stages.{stageNumber}
 use Rattle.machine.proofs.Window.{Times, lastCount, placeAt}
 use Rattle.places.specs.Code.{numbered}
 use Rattle.places.specs.declared.places.Place as Code
@@ -38,8 +38,8 @@ slot-filled (suc n) count h = simp unary-clauses refl
 
 -- a place whose stage has a slot
 record Within (p : Place) : Type 0 where
-  low : 1 ≤ level (p .stage)
-  high : level (p .stage) ≤ 6
+  low : 1 ≤ stageNumber (p .stage)
+  high : stageNumber (p .stage) ≤ 6
 
 slots : (a b c d store : Bool) (k l m n : ℕ) →
     Within
@@ -68,7 +68,7 @@ within i e t fetched h =
     (entry i MEM - (t - e .MEM))
     (lastCount i - (t - e .last)))
 
-pub within-seats : (i : Instruction) (e : Times) (t : ℕ) → e .IF ≤ t → t < e .post → {p : Code.Place} → p ≡ numbered (placeAt i e t) → p .level ≤ 6
+pub within-seats : (i : Instruction) (e : Times) (t : ℕ) → e .IF ≤ t → t < e .post → {p : Code.Place} → p ≡ numbered (placeAt i e t) → p .stage ≤ 6
 within-seats i e t fetched h q = rw q (within i e t fetched h .high)
 
 -- the numbers with instruction k seated
@@ -82,15 +82,15 @@ module _ (k : ℕ) (l : List ℕ) (long : length l ≡ 13) where
 
   grown : (stage : Stage) (count : ℕ) →
       Within (record { stage = stage; count = count }) →
-      Gives (record { stage = stage; count = count }) (λ l. placed l k (level stage) count) l
+      Gives (record { stage = stage; count = count }) (λ l. placed l k (stageNumber stage) count) l
   unfolding stateSeated slotSeated stateWith fetchedWith slotWith
   grown pre count h = absurd (omega (arith, h .low))
-  grown IF count h = over (Gives (record { stage = IF; count = count }) (λ l. placed l k (level IF) count)) l long refl
-  grown ID count h = over (Gives (record { stage = ID; count = count }) (λ l. placed l k (level ID) count)) l long refl
-  grown EX count h = over (Gives (record { stage = EX; count = count }) (λ l. placed l k (level EX) count)) l long refl
-  grown MEM count h = over (Gives (record { stage = MEM; count = count }) (λ l. placed l k (level MEM) count)) l long refl
-  grown ST count h = over (Gives (record { stage = ST; count = count }) (λ l. placed l k (level ST) count)) l long refl
-  grown WB count h = over (Gives (record { stage = WB; count = count }) (λ l. placed l k (level WB) count)) l long refl
+  grown IF count h = over (Gives (record { stage = IF; count = count }) (λ l. placed l k (stageNumber IF) count)) l long refl
+  grown ID count h = over (Gives (record { stage = ID; count = count }) (λ l. placed l k (stageNumber ID) count)) l long refl
+  grown EX count h = over (Gives (record { stage = EX; count = count }) (λ l. placed l k (stageNumber EX) count)) l long refl
+  grown MEM count h = over (Gives (record { stage = MEM; count = count }) (λ l. placed l k (stageNumber MEM) count)) l long refl
+  grown ST count h = over (Gives (record { stage = ST; count = count }) (λ l. placed l k (stageNumber ST) count)) l long refl
+  grown WB count h = over (Gives (record { stage = WB; count = count }) (λ l. placed l k (stageNumber WB) count)) l long refl
   grown post count h = absurd (omega (arith, h .high))
 
   gone : Gives (record { stage = post; count = 0 }) (λ l. l) l
@@ -111,7 +111,7 @@ module _ (k : ℕ) (l : List ℕ) (long : length l ≡ 13) where
         t < e .post →
         {p : Code.Place} →
         p ≡ place →
-        Seated (set (set l (p .level) (k + 1)) (6 + p .level) (p .count)) (k + 1) (stateWith place k (stateSeated l k))
+        Seated (set (set l (p .stage) (k + 1)) (6 + p .stage) (p .count)) (k + 1) (stateWith place k (stateSeated l k))
     seat-slot fetched h q =
         record {
           long = simp length-set long;

@@ -1,7 +1,7 @@
 // The slots of the state that Run's pass builds, as numbers in one array that is lent to the pass: a
 // State carried by value through the loop would be copied with the padding of its six slots. At each
-// level from IF 1 to WB 6 stands one more than the index of the instruction there, or 0 if there is
-// none; six further on stands its count. The number at level 0, which is pre, is not used.
+// stage from IF 1 to WB 6 stands one more than the index of the instruction there, or 0 if there is
+// none; six further on stands its count. The number at stage 0, which is pre, is not used.
 ghost use mathlib.Core.Path.{_≡_};
 ghost use Prim.Native.Nat.{_+_, _<_, _≤_, _^_};
 ghost use lib.ListN.{length};
@@ -35,17 +35,17 @@ pub fn seat(seats: &mut [u32; SEATS], f: Fields, e: Times, limit: u32, k: u32)
 {
     if limit < e.post {
         let p = place_at(f, e, limit);
-        let at = p.level as usize;
+        let at = p.stage as usize;
         seats[at] = k + 1;
         seats[COUNTS + at] = p.count;
     }
 }
 
-fn slot_at(seats: &[u32; SEATS], level: u32) -> Slot
-    requires { ⌜ level ≤ 6 ⌝ }
-    ensures { λ r. ⌜ r ≡ slotSeated (now (seats .entry)) level ⌝ }
+fn slot_at(seats: &[u32; SEATS], stage: u32) -> Slot
+    requires { ⌜ stage ≤ 6 ⌝ }
+    ensures { λ r. ⌜ r ≡ slotSeated (now (seats .entry)) stage ⌝ }
 {
-    let at = level as usize;
+    let at = stage as usize;
     let seat = seats[at];
     if seat == 0 {
         return Slot {

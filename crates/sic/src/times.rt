@@ -6,7 +6,7 @@ ghost use Rattle.timing.specs.Answers.{
   marginAnswer,
   alikeAnswer,
 };
-use timing::BestWorst;
+use timing::BestAndWorst;
 use timing::DeadlineMargin;
 use timing::Finished;
 use timing::Likeness;
@@ -19,7 +19,7 @@ pub extern "C" fn sic_finish(body: &[u8]) -> Finished
 }
 
 #[no_mangle]
-pub extern "C" fn sic_best_worst(body: &[u8]) -> BestWorst
+pub extern "C" fn sic_best_worst(body: &[u8]) -> BestAndWorst
     ensures { λ r. ⌜ r ≡ bestWorstAnswer (now (body .entry)) ⌝ }
 {
     timing::best_worst(body)

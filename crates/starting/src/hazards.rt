@@ -1,4 +1,4 @@
-// Which older instructions hold another back in its stage. Stages are levels, pre 0 to post 7.
+// Which older instructions hold another back in its stage. Stages are numbers, pre 0 to post 7.
 ghost use mathlib.Core.Path.{_≡_};
 ghost use Prim.Native.Nat.{_<_, _≤_};
 ghost use lib.Dec.{ltb};
@@ -26,12 +26,12 @@ use moving::Bits;
 use record::Fields;
 use standing::Standing;
 
-// The slot at the level holds a pending instruction.
-fn slot_pending(level: u32, held: Slot, f: Fields) -> bool
-    requires { ⌜ (0 < level) × (level ≤ 7) ⌝ }
-    ensures { λ r. ⌜ r ≡ (held .filled and pending (instructionOf f .kind) (record { stage = stageAt level; count = held .count })) ⌝ }
+// The slot at the stage holds a pending instruction.
+fn slot_pending(stage: u32, held: Slot, f: Fields) -> bool
+    requires { ⌜ (0 < stage) × (stage ≤ 7) ⌝ }
+    ensures { λ r. ⌜ r ≡ (held .filled and pending (instructionOf f .kind) (record { stage = stageAt stage; count = held .count })) ⌝ }
 {
-    held.filled & pending(f, level, held.count)
+    held.filled & pending(f, stage, held.count)
 }
 
 // Which slots hold a pending instruction, found once for all that may wait in this cycle.
@@ -50,24 +50,24 @@ pub(crate) fn pending_slots(s: State, w: Standing) -> Bits
 }
 
 // The instruction at index `other`, with fields j, is pending and holds back instruction `index`,
-// with fields i, at this level.
-fn holds_back(level: u32, i: Fields, index: u32, pending: bool, other: u32, j: Fields) -> bool
-    ensures { λ r. ⌜ r ≡ (pending and ltb other index and waitsFor (stageAt level) (instructionOf i) (instructionOf j)) ⌝ }
+// with fields i, at this stage.
+fn holds_back(stage: u32, i: Fields, index: u32, pending: bool, other: u32, j: Fields) -> bool
+    ensures { λ r. ⌜ r ≡ (pending and ltb other index and waitsFor (stageAt stage) (instructionOf i) (instructionOf j)) ⌝ }
 {
-    pending & (other < index) & waits_for(level, i, j)
+    pending & (other < index) & waits_for(stage, i, j)
 }
 
-pub(crate) fn held_back(level: u32, i: Fields, index: u32, p: Bits, s: State, w: Standing) -> bool
+pub(crate) fn held_back(stage: u32, i: Fields, index: u32, p: Bits, s: State, w: Standing) -> bool
     ensures { λ r. ⌜ ((trace : Trace) →
         Reads trace s w →
         p ≡ bitsOf (pendingIn trace s) →
         instructionOf i ≡ instruction trace index →
-        r ≡ heldBack trace s (stageAt level) index) ⌝ }
+        r ≡ heldBack trace s (stageAt stage) index) ⌝ }
 {
-    holds_back(level, i, index, p.IF, s.IF.index, w.IF)
-        | holds_back(level, i, index, p.ID, s.ID.index, w.ID)
-        | holds_back(level, i, index, p.EX, s.EX.index, w.EX)
-        | holds_back(level, i, index, p.MEM, s.MEM.index, w.MEM)
-        | holds_back(level, i, index, p.ST, s.ST.index, w.ST)
-        | holds_back(level, i, index, p.WB, s.WB.index, w.WB)
+    holds_back(stage, i, index, p.IF, s.IF.index, w.IF)
+        | holds_back(stage, i, index, p.ID, s.ID.index, w.ID)
+        | holds_back(stage, i, index, p.EX, s.EX.index, w.EX)
+        | holds_back(stage, i, index, p.MEM, s.MEM.index, w.MEM)
+        | holds_back(stage, i, index, p.ST, s.ST.index, w.ST)
+        | holds_back(stage, i, index, p.WB, s.WB.index, w.WB)
 }

@@ -1,5 +1,5 @@
 // Which instructions could move in a cycle, if their next stage will be free.
 mod hazards;
-pub mod starts;
+pub mod ready;
 
-pub use starts::going;
+pub use ready::starts;

@@ -14,7 +14,7 @@ use Rattle.record.proofs.Refusals.{then-none}
 use Rattle.settling.proofs.Settled.{settled-already}
 use Rattle.timing.specs.Answers.{finishAnswer, bestWorstAnswer, marginAnswer, alikeRefusal, alikeAnswer}
 use Rattle.timing.specs.declared.calls.Finished.{Finished}
-use Rattle.timing.specs.declared.calls.BestWorst.{BestWorst}
+use Rattle.timing.specs.declared.calls.BestAndWorst.{BestAndWorst}
 use Rattle.timing.specs.declared.calls.DeadlineMargin.{DeadlineMargin}
 use Rattle.timing.specs.declared.calls.Likeness.{Likeness}
 
@@ -39,7 +39,7 @@ module _ (body : List ℕ) where
   finish-given z e = rw e (sym (accepted (settledRefusal body) _ _ z))
 
   pub best-worst-refused
-      : {r : ℕ} → r ≡ bodyRefusal body → (r ≡ 0 → ⊥) → _≡_ {A = BestWorst} (record { refusal = r; best = 0; worst = 0 }) (bestWorstAnswer body)
+      : {r : ℕ} → r ≡ bodyRefusal body → (r ≡ 0 → ⊥) → _≡_ {A = BestAndWorst} (record { refusal = r; best = 0; worst = 0 }) (bestWorstAnswer body)
   unfolding bestWorstAnswer
   best-worst-refused e h = rw e (sym (refused (bodyRefusal body) _ _ (λ z. h (e ∙ z))))
 
@@ -48,7 +48,7 @@ module _ (body : List ℕ) where
       {b w : ℕ} →
       b ≡ finish (settle (flagOf 0) (traceOf body)) →
       w ≡ finish (settle (flagOf 1) (traceOf body)) →
-      _≡_ {A = BestWorst} (record { refusal = 0; best = b; worst = w }) (bestWorstAnswer body)
+      _≡_ {A = BestAndWorst} (record { refusal = 0; best = b; worst = w }) (bestWorstAnswer body)
   unfolding bestWorstAnswer best worst flagOf
   best-worst-given z p q = rw (p, q) (sym (accepted (bodyRefusal body) _ _ z))
 

@@ -9,7 +9,7 @@ use Rattle.machine.specs.Time.{finish, best, worst}
 use Rattle.record.specs.Refusal.{_then_}
 use Rattle.record.specs.Body.{traceOf, bodyRefusal, settledRefusal}
 use Rattle.timing.specs.declared.calls.Finished.{Finished}
-use Rattle.timing.specs.declared.calls.BestWorst.{BestWorst}
+use Rattle.timing.specs.declared.calls.BestAndWorst.{BestAndWorst}
 use Rattle.timing.specs.declared.calls.DeadlineMargin.{DeadlineMargin}
 use Rattle.timing.specs.declared.calls.Likeness.{Likeness}
 
@@ -21,7 +21,7 @@ finishAnswer body =
     (record { refusal = settledRefusal body; time = 0 })
 
 -- "Best and worst: 10, 8."
-unfoldable pub bestWorstAnswer : List ℕ → BestWorst
+unfoldable pub bestWorstAnswer : List ℕ → BestAndWorst
 bestWorstAnswer body =
     cond (eqb (bodyRefusal body) 0)
     (record { refusal = 0; best = best (traceOf body); worst = worst (traceOf body) })

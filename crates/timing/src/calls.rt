@@ -20,7 +20,7 @@ pub struct Finished {
 }
 
 #[repr(C)]
-pub struct BestWorst {
+pub struct BestAndWorst {
     pub refusal: u32,
     pub best: u32,
     pub worst: u32,
@@ -54,18 +54,18 @@ pub fn finish(body: &[u8]) -> Finished
 }
 
 // The least and the greatest finishing time of all settlings.
-pub fn best_worst(body: &[u8]) -> BestWorst
+pub fn best_worst(body: &[u8]) -> BestAndWorst
     ensures { λ r. ⌜ r ≡ bestWorstAnswer (now (body .entry)) ⌝ }
 {
     let refusal = body_refusal(body);
     if refusal != 0 {
-        return BestWorst {
+        return BestAndWorst {
             refusal,
             best: 0,
             worst: 0,
         };
     }
-    BestWorst {
+    BestAndWorst {
         refusal: 0,
         best: finish_settled(body, HIT),
         worst: finish_settled(body, MISS),

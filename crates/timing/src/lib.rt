@@ -2,7 +2,7 @@
 // over the body's records once for each time that it needs (`finishing`).
 pub mod calls;
 
-pub use calls::BestWorst;
+pub use calls::BestAndWorst;
 pub use calls::DeadlineMargin;
 pub use calls::Finished;
 pub use calls::Likeness;

@@ -58,7 +58,7 @@ fn checks(trace: &str, bodies: &[&[u8]]) {
 /// Finish, and Run to the end, which is the longest way, and half way there.
 fn ends(trace: &str, bodies: &[&[u8]]) {
     let finish = race_each(bodies, |b| number(sic::finish(b)), |b| natural::finish(b));
-    let whole = |r: sic::Run| (r.state, r.cycles, r.left);
+    let whole = |r: sic::Ran| (r.state, r.cycles, r.left);
     let run = race_each(bodies, |b| number(sic::run(b, u32::MAX).map(whole)), |b| natural::run(b, u32::MAX));
     let limits: Vec<(&[u8], u32)> = bodies.iter().map(|&b| (b, sic::finish(b).unwrap() / 2)).collect();
     let half = race_each(&limits, |&(b, limit)| number(sic::run(b, limit).map(whole)), |&(b, limit)| natural::run(b, limit));
@@ -72,7 +72,7 @@ fn ends(trace: &str, bodies: &[&[u8]]) {
 }
 
 fn bounds(trace: &str, bodies: &[&[u8]]) {
-    let pair = |t: sic::Times| (t.best, t.worst);
+    let pair = |t: sic::BestAndWorst| (t.best, t.worst);
     let times = race_each(bodies, |b| number(sic::best_worst(b).map(pair)), |b| natural::best_worst(b));
     let slow = simulated(bodies, |b| assert_eq!(Ok(natural::best_worst_by_cycles(b)), sic::best_worst(b).map(pair)));
     line("Best and worst", trace, times, Some(slow));

@@ -7,7 +7,7 @@ use Rattle.machine.specs.Instruction.{miss}
 use Rattle.machine.specs.Time.{settle, best, worst}
 use Rattle.record.specs.Body.{traceOf, bodyRefusal}
 use Rattle.timing.specs.Answers.{bestWorstAnswer}
-use Rattle.timing.specs.declared.calls.BestWorst.{BestWorst}
+use Rattle.timing.specs.declared.calls.BestAndWorst.{BestAndWorst}
 use Rattle.chart_lines.specs.Lines.{timesText}
 use Rattle.chart_rows.specs.Rows.{rowsText}
 use Rattle.chart_text.specs.Chart.{chartOf}
@@ -52,7 +52,7 @@ same-length c = search needs
 
 returns : tie.Need-returns
 unfolding chartOf
-returns c = let trace = traceOf (c .before .before .before .before .before .before .before .before .before .before .before .before .before .before .before .before .before .args .body .now) in let times = c .before .before .before .before .before .before .before .before .before .before .before .before .before .before .best-worst .ensures ∙ times-given _ (c .before .before .before .before .before .before .before .before .before .before .before .before .before .before .before .before .before .pre .0) in let latest = ap (λ (t : BestWorst). t .worst) times in let earliest = ap (λ (t : BestWorst). t .best) times in wrote-then _ _ _ _ (wrote-then _ _ _ _ (c .before .before .before .before .before .before .before .before .before .before .before .put-text .ensures) (as-text _ _ (ap (λ (n : ℕ). rowsText (settle miss trace) (suc n)) (c .before .before .before .before .before .before .before .smaller .ensures ∙ ap (λ (t : ℕ). min t 1000) latest)) (c .before .before .before .before .before .before .put-rows .ensures))) (as-text _ _ (ap₂ timesText latest earliest) (c .before .before .put-times .ensures))
+returns c = let trace = traceOf (c .before .before .before .before .before .before .before .before .before .before .before .before .before .before .before .before .before .args .body .now) in let times = c .before .before .before .before .before .before .before .before .before .before .before .before .before .before .best-worst .ensures ∙ times-given _ (c .before .before .before .before .before .before .before .before .before .before .before .before .before .before .before .before .before .pre .0) in let latest = ap (λ (t : BestAndWorst). t .worst) times in let earliest = ap (λ (t : BestAndWorst). t .best) times in wrote-then _ _ _ _ (wrote-then _ _ _ _ (c .before .before .before .before .before .before .before .before .before .before .before .put-text .ensures) (as-text _ _ (ap (λ (n : ℕ). rowsText (settle miss trace) (suc n)) (c .before .before .before .before .before .before .before .smaller .ensures ∙ ap (λ (t : ℕ). min t 1000) latest)) (c .before .before .before .before .before .before .put-rows .ensures))) (as-text _ _ (ap₂ timesText latest earliest) (c .before .before .put-times .ensures))
 
 pub draw-body-spec : {M : Type 1} → statement M
 draw-body-spec =

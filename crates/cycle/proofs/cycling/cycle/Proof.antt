@@ -13,8 +13,8 @@ use Rattle.cycle.proofs.Starts.{leaving-is, standstill-is, none-set}
 use Rattle.cycle.proofs.cycling.cycle.Statement.{statement}
 use Rattle.cycle.proofs.cycling.cycle.Tie as tie
 
-going-requires : tie.Need-going-requires
-going-requires c κs = tt
+starts-requires : tie.Need-starts-requires
+starts-requires c κs = tt
 
 none-requires : tie.Need-none-requires
 none-requires c κs = tt
@@ -29,7 +29,7 @@ returns c =
     let s = c3 .before .args .s in
     let idle = sym (c .before .before .none .ensures) ∙ c .before .if1 .taken in
     c .all-stay .ensures
-    ∙ standstill-is trace s (none-set (starts trace s) (and-failed-l _ _ (goes-post trace s)) (c3 .going .ensures trace h e) idle)
+    ∙ standstill-is trace s (none-set (starts trace s) (and-failed-l _ _ (goes-post trace s)) (c3 .starts .ensures trace h e) idle)
 
 is-store-requires : tie.Need-is-store-requires
 is-store-requires c κs = tt
@@ -60,7 +60,7 @@ returns-2 c =
     c .slots-after .ensures trace h
     (c .before .leaving .ensures
     ∙ leaving-is trace (a .s)
-    (c4 .mask .ensures ∙ ap (λ (b : Bits). maskOf (bitOf b)) (c8 .going .ensures trace h e))
+    (c4 .mask .ensures ∙ ap (λ (b : Bits). maskOf (bitOf b)) (c8 .starts .ensures trace h e))
     (c .before .before .mask2 .ensures ∙ ap (λ (b : Bits). maskOf (bitOf b)) (c .before .before .before .full .ensures trace e))
     store)
     store
@@ -69,7 +69,7 @@ pub cycle-spec : {M : Type 1} → statement M
 cycle-spec =
     tie.close
     (tie.spec
-    going-requires
+    starts-requires
     none-requires
     all-stay-requires
     returns

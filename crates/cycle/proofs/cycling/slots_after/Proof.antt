@@ -4,7 +4,7 @@ use mathlib.Core.Path.{refl, sym, ap, _∙_}
 use mathlib.Core.Bool.{Bool, not, cond}
 use borrow.Author.Needs.{needs}
 use Rattle.machine.proofs.Connectives.{and-true}
-use Rattle.machine.proofs.BySlots.{standing, before, takes, arrives}
+use Rattle.machine.proofs.BySlots.{standing, stageBefore, takes, arrives}
 use Rattle.machine.specs.Rules.{IF, ID, EX, MEM, ST, WB, entry}
 use Rattle.record.specs.Rules.{instructionOf}
 use Rattle.moving.specs.declared.moving.Bits.{Bits}
@@ -45,7 +45,7 @@ slot-after-requires-6 : tie.Need-slot-after-requires-6
 slot-after-requires-6 c κs = tt
 
 returns : tie.Need-returns
-unfolding standing before takes arrives entry instructionOf
+unfolding standing stageBefore takes arrives entry instructionOf
 returns c =
     λ trace h m t.
     let c3 = c .before .before .before in

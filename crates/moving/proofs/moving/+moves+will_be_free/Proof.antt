@@ -1,4 +1,4 @@
--- `moves` and `will_be_free` meet their contracts: they call each other, the level's distance to post falling.
+-- `moves` and `will_be_free` meet their contracts: they call each other, the distance to post falling.
 use Prim.Native.Nat.{ℕ, _<_, _+_, _-_}
 use mathlib.Core.Path.{sym, ap, _∙_}
 use native.Mathlib.Omega.{arith}
@@ -84,7 +84,7 @@ moves-returns t c =
     let a = c .before .before .before .before .args in
     c .will-be-free .ensures
     ∙ ap (λ (n : ℕ). freeAt (bits (a .going)) (bits (a .full)) (a .store) (stageAt n)) (c .before .next .ensures .0)
-    ∙ sym (moves-on (a .going) (a .full) (a .store) (a .level) (omega arith) (sym (c .before .before .before .bit .ensures) ∙ c .before .before .if1 .taken))
+    ∙ sym (moves-on (a .going) (a .full) (a .store) (a .stage) (omega arith) (sym (c .before .before .before .bit .ensures) ∙ c .before .before .if1 .taken))
 
 moves-returns-2 : (t : ℕ) → moves-lts.Need-returns-2 (
   bit-reads.Asked,
@@ -96,7 +96,7 @@ moves-returns-2 : (t : ℕ) → moves-lts.Need-returns-2 (
 ) (moves-at t) moves.Post
 moves-returns-2 t c =
     let a = c .before .before .args in
-    sym (moves-off (a .going) (a .full) (a .store) (a .level) (omega arith) (sym (c .before .bit .ensures) ∙ c .if1 .left))
+    sym (moves-off (a .going) (a .full) (a .store) (a .stage) (omega arith) (sym (c .before .bit .ensures) ∙ c .if1 .left))
 
 will-be-free-returns : (t : ℕ) → will-be-free-lts.Need-returns (
   bit-reads.Asked,
@@ -133,7 +133,7 @@ will-be-free-returns-2 : (t : ℕ) → will-be-free-lts.Need-returns-2 (
 will-be-free-returns-2 t c =
     let a = c .before .before .before .before .args in
     c .moves .ensures
-    ∙ sym (free-filled (a .going) (a .full) (a .store) (a .level) (omega arith) (sym (c .before .before .bit .ensures) ∙ c .before .if2 .taken))
+    ∙ sym (free-filled (a .going) (a .full) (a .store) (a .stage) (omega arith) (sym (c .before .before .bit .ensures) ∙ c .before .if2 .taken))
 
 will-be-free-returns-3 : (t : ℕ) → will-be-free-lts.Need-returns-3 (
   bit-reads.Asked,
@@ -143,7 +143,7 @@ will-be-free-returns-3 : (t : ℕ) → will-be-free-lts.Need-returns-3 (
 ) (will-be-free-at t) will-be-free.Post
 will-be-free-returns-3 t c =
     let a = c .before .before .before .args in
-    sym (free-empty (a .going) (a .full) (a .store) (a .level) (omega arith) (sym (c .before .bit .ensures) ∙ c .if2 .left))
+    sym (free-empty (a .going) (a .full) (a .store) (a .stage) (omega arith) (sym (c .before .bit .ensures) ∙ c .if2 .left))
 
 pub +moves+will-be-free-spec : {M : Type 1} → statement M
 +moves+will-be-free-spec = close μ-moves μ-will-be-free (λ t. moves-lts.spec (

@@ -1,4 +1,4 @@
--- `next` meets its contract: the level after each level.
+-- `next` meets its contract: the stage after each stage.
 use native.Mathlib.Omega.{arith}
 use borrow.Author.Tests.{ne-eqb}
 use borrow.Author.Needs.{needs}

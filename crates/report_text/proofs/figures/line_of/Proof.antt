@@ -6,7 +6,7 @@ use Rattle.record.specs.Rules.{flagOf}
 use Rattle.record.proofs.Accepted.{few-records}
 use Rattle.record.proofs.Instructions.{length-traceOf}
 use Rattle.timing.proofs.Answered.{best-worst-given}
-use Rattle.timing.specs.declared.calls.BestWorst.{BestWorst}
+use Rattle.timing.specs.declared.calls.BestAndWorst.{BestAndWorst}
 use Rattle.report_text.specs.Report.{lineOf}
 use borrow.Author.Needs.{needs}
 use Rattle.report_text.proofs.figures.line_of.Statement.{statement}
@@ -32,8 +32,8 @@ returns c =
     let given = best-worst-given body (c .before .before .before .before .pre) refl refl in
     let times = c .before .before .best-worst .ensures ∙ sym given in
     rw (
-      ap (λ (t : BestWorst). t .best) times,
-      ap (λ (t : BestWorst). t .worst) times,
+      ap (λ (t : BestAndWorst). t .best) times,
+      ap (λ (t : BestAndWorst). t .worst) times,
       c .before .unknown-flags .ensures,
       c .count .ensures,
       length-traceOf body,

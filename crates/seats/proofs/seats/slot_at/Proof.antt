@@ -16,7 +16,7 @@ element-copy-out-seat c = search needs
 
 returns : tie.Need-returns
 unfolding slotSeated
-returns c = ap (λ (n : ℕ). slotOf n (getD (c .before .before .args .seats .now) (6 + c .before .before .args .level) 0)) (sym (c .if1 .taken))
+returns c = ap (λ (n : ℕ). slotOf n (getD (c .before .before .args .seats .now) (6 + c .before .before .args .stage) 0)) (sym (c .if1 .taken))
 
 sub-t8 : tie.Need-sub-t8
 sub-t8 c = search needs

@@ -29,7 +29,7 @@ returns : tie.Need-returns
 returns c =
     λ trace h p ei.
     let a = c .before .before .before .before .before .before .args in
-    let at = stageAt (a .level) in
+    let at = stageAt (a .stage) in
     held-by trace (a .s) at (a .index)
     (holds trace at (a .index) IF (a .s .IF) ei (h .IF) (ap (λ (b : Bits). b .IF) p) (c .before .before .before .before .before .holds-back .ensures))
     (holds trace at (a .index) ID (a .s .ID) ei (h .ID) (ap (λ (b : Bits). b .ID) p) (c .before .before .before .before .holds-back2 .ensures))

@@ -1,8 +1,8 @@
 -- `enter_last` meets its contract: its calls together are the definition.
 use Rattle.entering.proofs.Steps.{last-step}
 use borrow.Author.Needs.{needs}
-use Rattle.entering.proofs.levels.enter_last.Statement.{statement}
-use Rattle.entering.proofs.levels.enter_last.Tie as tie
+use Rattle.entering.proofs.stages.enter_last.Statement.{statement}
+use Rattle.entering.proofs.stages.enter_last.Tie as tie
 
 count-in-mem-requires : tie.Need-count-in-mem-requires
 count-in-mem-requires c κs = search needs

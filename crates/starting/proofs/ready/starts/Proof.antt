@@ -1,4 +1,4 @@
--- `going` meets its contract: bit by bit; only in pre, ID and EX can something be held back.
+-- `starts` meets its contract: bit by bit; only in pre, ID and EX can something be held back.
 use mathlib.Core.Path.{refl, sym, ap, _∙_}
 use mathlib.Core.Bool.{Bool, not}
 use lib.Dec.{ltb}
@@ -11,8 +11,8 @@ use Rattle.starting.specs.Starts.{opens, starts}
 use Rattle.moving.proofs.Seven.{bits-are}
 use Rattle.starting.proofs.Held.{goes-free}
 use Rattle.decode.proofs.Joined.{both-of}
-use Rattle.starting.proofs.starts.going.Statement.{statement}
-use Rattle.starting.proofs.starts.going.Tie as tie
+use Rattle.starting.proofs.ready.starts.Statement.{statement}
+use Rattle.starting.proofs.ready.starts.Tie as tie
 
 pending-slots-requires : tie.Need-pending-slots-requires
 pending-slots-requires c κs = tt
@@ -59,8 +59,8 @@ returns c =
     (c .before .counted-down3 .ensures ∙ goes-free trace s ST (s .ST .index) (λ i j. refl) _ ∙ sym (and-true _))
     (c .counted-down4 .ensures ∙ goes-free trace s WB (s .WB .index) (λ i j. refl) _ ∙ sym (and-true _))
 
-pub going-spec : {M : Type 1} → statement M
-going-spec =
+pub starts-spec : {M : Type 1} → statement M
+starts-spec =
     tie.close
     (tie.spec
     pending-slots-requires

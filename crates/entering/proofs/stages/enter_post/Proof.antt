@@ -2,8 +2,8 @@
 use Rattle.machine.proofs.Window.{enterPost}
 use Rattle.entering.proofs.Steps.{sum-joins}
 use borrow.Author.Needs.{needs}
-use Rattle.entering.proofs.levels.enter_post.Statement.{statement}
-use Rattle.entering.proofs.levels.enter_post.Tie as tie
+use Rattle.entering.proofs.stages.enter_post.Statement.{statement}
+use Rattle.entering.proofs.stages.enter_post.Tie as tie
 
 cycles-in-last-requires : tie.Need-cycles-in-last-requires
 cycles-in-last-requires c κs = c .pre .1

@@ -1,8 +1,8 @@
 -- `counted_down` meets its contract: the code's conjunction is the definition's.
 use mathlib.Core.Path.{refl}
 use Rattle.decode.proofs.Joined.{both-of}
-use Rattle.starting.proofs.starts.counted_down.Statement.{statement}
-use Rattle.starting.proofs.starts.counted_down.Tie as tie
+use Rattle.starting.proofs.ready.counted_down.Statement.{statement}
+use Rattle.starting.proofs.ready.counted_down.Tie as tie
 
 returns : tie.Need-returns
 returns c = both-of refl refl

@@ -2,8 +2,8 @@
 use mathlib.Core.Path.{refl, ap}
 use mathlib.Core.Bool.{not}
 use Rattle.decode.proofs.Joined.{guarded, unguarded}
-use Rattle.starting.proofs.starts.fetchable.Statement.{statement}
-use Rattle.starting.proofs.starts.fetchable.Tie as tie
+use Rattle.starting.proofs.ready.fetchable.Statement.{statement}
+use Rattle.starting.proofs.ready.fetchable.Tie as tie
 
 opens-requires : tie.Need-opens-requires
 opens-requires c κs = tt

@@ -6,8 +6,8 @@ use Rattle.entering.proofs.Steps.{MEM-step}
 use borrow.Author.Needs.{needs}
 use mathlib.Core.Path.{_∙_}
 use Rattle.decode.proofs.Entries.{misses-alone}
-use Rattle.entering.proofs.levels.enter_mem.Statement.{statement}
-use Rattle.entering.proofs.levels.enter_mem.Tie as tie
+use Rattle.entering.proofs.stages.enter_mem.Statement.{statement}
+use Rattle.entering.proofs.stages.enter_mem.Tie as tie
 
 access-misses-requires : tie.Need-access-misses-requires
 access-misses-requires c κs = search needs

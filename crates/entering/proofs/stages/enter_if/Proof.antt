@@ -1,8 +1,8 @@
 -- `enter_if` meets its contract: its calls together are the definition.
 use Rattle.entering.proofs.Steps.{IF-step}
 use borrow.Author.Needs.{needs}
-use Rattle.entering.proofs.levels.enter_if.Statement.{statement}
-use Rattle.entering.proofs.levels.enter_if.Tie as tie
+use Rattle.entering.proofs.stages.enter_if.Statement.{statement}
+use Rattle.entering.proofs.stages.enter_if.Tie as tie
 
 later-requires : tie.Need-later-requires
 later-requires c κs = search needs

@@ -1,8 +1,8 @@
 -- `enter_id` meets its contract: its calls together are the definition.
 use Rattle.entering.proofs.Steps.{ID-step}
 use borrow.Author.Needs.{needs}
-use Rattle.entering.proofs.levels.enter_id.Statement.{statement}
-use Rattle.entering.proofs.levels.enter_id.Tie as tie
+use Rattle.entering.proofs.stages.enter_id.Statement.{statement}
+use Rattle.entering.proofs.stages.enter_id.Tie as tie
 
 count-in-if-requires : tie.Need-count-in-if-requires
 count-in-if-requires c κs = search needs

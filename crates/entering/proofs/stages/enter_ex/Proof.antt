@@ -1,8 +1,8 @@
 -- `enter_ex` meets its contract: its calls together are the definition.
 use Rattle.entering.proofs.Steps.{EX-step}
 use borrow.Author.Needs.{needs}
-use Rattle.entering.proofs.levels.enter_ex.Statement.{statement}
-use Rattle.entering.proofs.levels.enter_ex.Tie as tie
+use Rattle.entering.proofs.stages.enter_ex.Statement.{statement}
+use Rattle.entering.proofs.stages.enter_ex.Tie as tie
 
 reads-requires : tie.Need-reads-requires
 reads-requires c κs = search needs

@@ -3,8 +3,8 @@ use mathlib.Core.Path.{sym, ap, _∙_}
 use mathlib.Core.Bool.{not}
 use Rattle.machine.proofs.Connectives.{and-l}
 use Rattle.decode.proofs.Joined.{guarded, unguarded, both-l}
-use Rattle.starting.proofs.starts.released.Statement.{statement}
-use Rattle.starting.proofs.starts.released.Tie as tie
+use Rattle.starting.proofs.ready.released.Statement.{statement}
+use Rattle.starting.proofs.ready.released.Tie as tie
 
 counted-down-requires : tie.Need-counted-down-requires
 counted-down-requires c κs = tt

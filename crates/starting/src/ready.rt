@@ -39,15 +39,15 @@ fn opens(held: Slot) -> bool
 
 // Whether the instruction in the slot could move into the one after it: who holds it back is looked
 // up only if its count is 0 and that slot may be free.
-fn released(level: u32, held: Slot, after: Slot, i: Fields, p: Bits, s: State, w: Standing) -> bool
+fn released(stage: u32, held: Slot, after: Slot, i: Fields, p: Bits, s: State, w: Standing) -> bool
     ensures { λ r. ⌜ ((trace : Trace) →
         Reads trace s w →
         p ≡ bitsOf (pendingIn trace s) →
         (held .filled ≡ true → instructionOf i ≡ instruction trace (held .index)) →
-        r ≡ (held .filled and eqb (held .count) 0 and not (heldBack trace s (stageAt level) (held .index)) and opens after)) ⌝ }
+        r ≡ (held .filled and eqb (held .count) 0 and not (heldBack trace s (stageAt stage) (held .index)) and opens after)) ⌝ }
 {
     if counted_down(held) & opens(after) {
-        return !held_back(level, i, held.index, p, s, w);
+        return !held_back(stage, i, held.index, p, s, w);
     }
     false
 }
@@ -67,7 +67,7 @@ fn fetchable(n: u32, p: Bits, s: State, w: Standing) -> bool
 
 // Which instructions move if their next stage will be free: those that have count 0, are ready and,
 // up to EX, have a next slot that may be free.
-pub fn going(n: u32, s: State, w: Standing) -> Bits
+pub fn starts(n: u32, s: State, w: Standing) -> Bits
     ensures { λ r. ⌜ ((trace : Trace) → Reads trace s w → length trace ≡ n → r ≡ bitsOf (starts trace s)) ⌝ }
 {
     let p = pending_slots(s, w);
