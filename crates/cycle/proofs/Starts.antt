@@ -8,7 +8,7 @@ use Rattle.machine.specs.Instruction.{Trace, instruction}
 use Rattle.machine.specs.Rules.{Stage, pre, IF, ID, EX, MEM, ST, WB, post, same, budget, entry}
 use Rattle.machine.specs.State.{slot}
 use Rattle.machine.specs.declared.State.{State}
-use Rattle.machine.proofs.Connectives.{Value, passed, failed, value, clash, and-l, and-r, and-failed-l, and-true, or-l, or-r, or-else, not-passes}
+use Rattle.machine.proofs.Connectives.{Value, passed, failed, value, clash, and-l, and-r, and-failed-l, or-l, or-r, or-else, not-passes}
 use Rattle.machine.proofs.BySlots.{standing, goes, occupied, storeInMEM, nextIn, movesIn, movesAt, freeAt, moves-at, free-at, before, arrives, leaves, slotAfter, newSlot, stepBySlots}
 use Rattle.machine.proofs.Masks.{bits, maskOf, mask-bits, goes-post, occupied-post}
 use Rattle.moving.specs.declared.moving.Bits.{Bits}

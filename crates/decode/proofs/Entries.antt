@@ -3,17 +3,15 @@ use Prim.Native.Nat.{ℕ, _+_, _-_}
 use mathlib.Core.Bool.{Bool, cond, _&&_}
 use mathlib.Core.Path.{_≡_, ap, _∙_}
 use native.Mathlib.Omega.{arith}
-use lib.Dec.{eqb}
 use Rattle.machine.specs.Test.{_and_, _or_}
 use Rattle.machine.specs.Instruction.{Instruction}
 use Rattle.machine.specs.Rules.{Stage, IF, MEM, ST, isLoad, isStore, misses, entry, missesData}
 use Rattle.machine.proofs.Connectives.{Value, passed, failed, value}
 use Rattle.machine.proofs.Window.{lastCount}
 use Rattle.record.specs.declared.layout.Fields.{Fields}
-use Rattle.record.specs.Rules.{flagOf, instructionOf}
+use Rattle.record.specs.Rules.{instructionOf}
 use Rattle.decode.specs.Access.{AccessLawful}
 use Rattle.decode.proofs.Joined.{both}
-use Rattle.decode.proofs.Numbers.{miss-number}
 
 -- equal instructions have equal counts
 pub entry-of : (k : Stage) {i j : Instruction} → i ≡ j → entry i k ≡ entry j k
@@ -43,17 +41,21 @@ module _ (f : Fields) where
   abbrev i : Instruction
   i = instructionOf f
 
-  pub IF-count : {r : ℕ} → r ≡ cond (eqb (f .fetch) 1) (f .«fetch_latency») 0 → r ≡ entry i IF
+  pub IF-count : {missed : Bool} {r : ℕ} → missed ≡ misses (i .fetch) → r ≡ cond missed (f .«fetch_latency») 0 → r ≡ entry i IF
   unfolding instructionOf entry
-  IF-count p = p ∙ rw (miss-number (f .fetch))
+  IF-count m q = q ∙ rw m
 
-  pub MEM-count : {load : Bool} {r : ℕ} → load ≡ isLoad (i .kind) → r ≡ cond (load && eqb (f .access) 1) (f .«data_latency») 0 → r ≡ entry i MEM
+  pub MEM-count : {load missed : Bool} {r : ℕ} →
+      load ≡ isLoad (i .kind) →
+      missed ≡ misses (i .access) →
+      r ≡ cond (load && missed) (f .«data_latency») 0 →
+      r ≡ entry i MEM
   unfolding instructionOf entry
-  MEM-count {load} p q = q ∙ rw (miss-number (f .access), both load (misses (flagOf (f .access))), p)
+  MEM-count p m q = q ∙ rw (both _ _, p, m)
 
-  pub ST-count : {late r : ℕ} → late ≡ f .«data_latency» - 1 → r ≡ cond (eqb (f .access) 1) late 0 → r ≡ entry i ST
+  pub ST-count : {missed : Bool} {late r : ℕ} → missed ≡ misses (i .access) → late ≡ f .«data_latency» - 1 → r ≡ cond missed late 0 → r ≡ entry i ST
   unfolding instructionOf entry
-  ST-count p q = q ∙ rw (miss-number (f .access), p)
+  ST-count m p q = q ∙ rw (m, p)
 
   pub last-count : {store : Bool} {late r : ℕ} → store ≡ isStore (i .kind) → late ≡ entry i ST → r ≡ cond store late 0 → r ≡ lastCount i
   unfolding lastCount
@@ -62,9 +64,10 @@ module _ (f : Fields) where
   -- one cycle more than the count, which for a store that misses is the latency less 1
   pub last-cycles
       : AccessLawful i →
-      {store : Bool} {r : ℕ} →
+      {store missed : Bool} {r : ℕ} →
       store ≡ isStore (i .kind) →
-      r ≡ cond (store && eqb (f .access) 1) (f .«data_latency») 1 →
+      missed ≡ misses (i .access) →
+      r ≡ cond (store && missed) (f .«data_latency») 1 →
       r ≡ lastCount i + 1
   unfolding instructionOf
-  last-cycles lawful {store} p q = q ∙ rw (miss-number (f .access), p) (cycles-more i lawful (value (isStore (i .kind))) (value (misses (i .access))))
+  last-cycles lawful p m q = q ∙ rw (p, m) (cycles-more i lawful (value (isStore (i .kind))) (value (misses (i .access))))

@@ -1,4 +1,4 @@
 pub mod Entries
-pub mod Goals
+pub mod Elsewhere
 pub mod Joined
 pub mod Numbers

@@ -8,7 +8,8 @@ ghost use Rattle.record.specs.Rules.{instructionOf};
 ghost use Rattle.decode.specs.Access.{AccessLawful};
 use crate::choice::choose;
 use crate::choice::less;
-use crate::kinds::MISS;
+use crate::kinds::access_misses;
+use crate::kinds::fetch_misses;
 use crate::kinds::is_load;
 use crate::kinds::is_store;
 use record::Fields;
@@ -16,19 +17,19 @@ use record::Fields;
 pub fn count_in_if(f: Fields) -> u32
     ensures { λ r. ⌜ r ≡ entry (instructionOf f) IF ⌝ }
 {
-    choose(f.fetch == MISS, f.fetch_latency, 0)
+    choose(fetch_misses(f), f.fetch_latency, 0)
 }
 
 pub fn count_in_mem(f: Fields) -> u32
     ensures { λ r. ⌜ r ≡ entry (instructionOf f) MEM ⌝ }
 {
-    choose(is_load(f) & (f.access == MISS), f.data_latency, 0)
+    choose(is_load(f) & access_misses(f), f.data_latency, 0)
 }
 
 pub fn count_in_st(f: Fields) -> u32
     ensures { λ r. ⌜ r ≡ entry (instructionOf f) ST ⌝ }
 {
-    choose(f.access == MISS, less(f.data_latency, 1), 0)
+    choose(access_misses(f), less(f.data_latency, 1), 0)
 }
 
 // The last stage is ST for a store and WB for any other kind.
@@ -44,5 +45,5 @@ pub fn cycles_in_last(f: Fields) -> u32
     requires { ⌜ AccessLawful (instructionOf f) ⌝ }
     ensures { λ r. ⌜ r ≡ lastCount (instructionOf f) + 1 ⌝ }
 {
-    choose(is_store(f) & (f.access == MISS), f.data_latency, 1)
+    choose(is_store(f) & access_misses(f), f.data_latency, 1)
 }

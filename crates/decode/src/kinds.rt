@@ -1,6 +1,6 @@
 // Kinds and flags by name, and what the rules ask of them.
 ghost use mathlib.Core.Path.{_≡_};
-ghost use Rattle.machine.specs.Rules.{isLoad, isStore, isBranch, hits, misses, reads, missesData};
+ghost use Rattle.machine.specs.Rules.{isLoad, isStore, holdsFetches, hits, misses, reads, missesData};
 ghost use Rattle.record.specs.Rules.{instructionOf};
 use record::Fields;
 
@@ -30,7 +30,7 @@ pub fn is_store(f: Fields) -> bool
 
 // Whether it holds back the fetches of all later ones.
 pub fn holds_fetches(f: Fields) -> bool
-    ensures { λ r. ⌜ r ≡ isBranch (instructionOf f .kind) ⌝ }
+    ensures { λ r. ⌜ r ≡ holdsFetches (instructionOf f .kind) ⌝ }
 {
     f.kind == BRANCH
 }
@@ -39,6 +39,12 @@ pub fn fetch_hits(f: Fields) -> bool
     ensures { λ r. ⌜ r ≡ hits (instructionOf f .fetch) ⌝ }
 {
     f.fetch == HIT
+}
+
+pub fn fetch_misses(f: Fields) -> bool
+    ensures { λ r. ⌜ r ≡ misses (instructionOf f .fetch) ⌝ }
+{
+    f.fetch == MISS
 }
 
 pub fn access_misses(f: Fields) -> bool

@@ -2,7 +2,7 @@
 ghost use mathlib.Core.Path.{_≡_};
 ghost use Prim.Native.Nat.{_<_, _≤_};
 ghost use Rattle.machine.proofs.Stages.{stageAt};
-ghost use Rattle.machine.proofs.BySlots.{pending, waitsFor};
+ghost use Rattle.machine.proofs.Hazards.{pending, waitsFor};
 ghost use Rattle.machine.proofs.Masks.{goalLevel};
 ghost use Rattle.record.specs.Rules.{instructionOf};
 use crate::kinds::fetch_hits;

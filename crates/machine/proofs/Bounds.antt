@@ -7,11 +7,12 @@ use native.Mathlib.Omega.{arith}
 use mathlib.Core.List.{[], _∷_}
 use lib.ListN.{length, take}
 use Rattle.machine.specs.Test.{_and_}
-use Rattle.machine.specs.Instruction.{Kind, plain, load, store, branch, Instruction, Trace, instruction}
+use Rattle.machine.specs.Instruction.{Instruction, Trace, instruction}
 use Rattle.machine.specs.Rules.{misses}
 use Rattle.machine.specs.Time.{bound}
 use Rattle.machine.proofs.Numbers.{by-age, sum, sum-mono}
 use Rattle.machine.proofs.Schedule.{Behaviour, Together, early, late, together, enters, done, starts, least}
+use Rattle.machine.proofs.Doing.{Does, holding, loading, storing, nothing, does}
 use Rattle.machine.proofs.Derivation.{countAt, fetchCount, dataCount, counts-are, behaviour}
 
 -- the number of an instruction's levels up to a level, plus their entry counts
@@ -63,20 +64,20 @@ fetch-count : (x : Bool) (n : ℕ) → fetchCount x n ≤ n
 fetch-count true n = omega arith
 fetch-count false n = omega arith
 
-data-count : (k : Kind) (m : Bool) (n : ℕ) → dataCount k m n ≤ n
+data-count : {h l s : Bool} → Does h l s → (m : Bool) (n : ℕ) → dataCount l s m n ≤ n
 unfolding _and_
-data-count plain m n = omega arith
-data-count load true n = omega arith
-data-count load false n = omega arith
-data-count store true n = omega arith
-data-count store false n = omega arith
-data-count branch m n = omega arith
+data-count holding m n = omega arith
+data-count loading true n = omega arith
+data-count loading false n = omega arith
+data-count storing true n = omega arith
+data-count storing false n = omega arith
+data-count nothing m n = omega arith
 
 counts-bounded : (i : Instruction) → sum (countAt i) 6 ≤ i .executionLatency + i .fetchLatency + i .dataLatency
 counts-bounded i =
     let f = fetch-count (misses (i .fetch)) (i .fetchLatency) in
     let e = counts-are i in
-    let d = data-count (i .kind) (misses (i .access)) (i .dataLatency) in
+    let d = data-count (does (i .kind)) (misses (i .access)) (i .dataLatency) in
     omega arith
 
 bound-step : (trace : Trace) (k : ℕ) → k < length trace →

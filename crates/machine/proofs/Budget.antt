@@ -1,17 +1,18 @@
 -- The budget of "moves" and "will be free" never decides: a stage's budget is two more than the next one's, so that each call leaves to the one it
 -- makes what that needs. And from post backwards the two sentences leave no choice, so any tests that keep them are these.
 use Prim.Native.Nat.{ℕ, zero, suc, _+_, _≤_, _<_}
-use mathlib.Core.Bool.{Bool, true, false, not}
-use mathlib.Core.Path.{_≡_, refl, sym, ap, subst, _∙_}
+use mathlib.Core.Bool.{Bool, true, false, not, cond}
+use mathlib.Core.Path.{_≡_, refl, sym, ap, _∙_}
 use native.Mathlib.Omega.{arith}
 use lib.Dec.{eqb}
 use lib.ListN.{length}
 use Rattle.machine.specs.Test.{_and_, _or_, every}
-use Rattle.machine.specs.Instruction.{Kind, plain, load, store, branch, Trace, instruction}
-use Rattle.machine.specs.Rules.{Stage, pre, IF, ID, EX, MEM, ST, WB, post, next, rank, same, Places, ready, budget, movesWithin, willBeFreeWithin, moves, willBeFree}
+use Rattle.machine.specs.Instruction.{Kind, Trace, instruction}
+use Rattle.machine.specs.Rules.{Stage, pre, IF, ID, EX, MEM, ST, WB, post, next, rank, same, isStore, Places, ready, budget, movesWithin, willBeFreeWithin, moves, willBeFree}
 use Rattle.machine.specs.Claims.{KeepsSentences, BudgetNeverDecides, SentencesDecide}
 use Rattle.machine.proofs.Connectives.{Value, passed, failed, value, clash, and-failed-l, and-left, or-l, not-passes, every-same}
 use Rattle.machine.proofs.Stages.{same-stage, eight}
+use Rattle.machine.proofs.Doing.{after-MEM}
 
 before-post : (s : Stage) → same s post ≡ false → rank s < 6
 before-post =
@@ -25,16 +26,17 @@ before-post =
     (λ h. omega arith)
     (λ h. clash refl h)
 
+rank-last : (lane : Bool) → rank (cond lane ST WB) ≡ 5
+rank-last true = refl
+rank-last false = refl
+
 rank-next : (kind : Kind) (s : Stage) → same s post ≡ false → rank (next kind s) ≡ suc (rank s)
 unfolding next
 rank-next kind pre h = refl
 rank-next kind IF h = refl
 rank-next kind ID h = refl
 rank-next kind EX h = refl
-rank-next plain MEM h = refl
-rank-next load MEM h = refl
-rank-next store MEM h = refl
-rank-next branch MEM h = refl
+rank-next kind MEM h = ap rank (after-MEM kind) ∙ rank-last (isStore kind)
 rank-next kind ST h = refl
 rank-next kind WB h = refl
 rank-next kind post h = clash refl h

@@ -6,12 +6,13 @@ use mathlib.Core.Path.{_≡_, refl, ap}
 use lib.Dec.{ltb, eqb}
 use lib.ListN.{length}
 use Rattle.machine.specs.Test.{_and_, _or_}
-use Rattle.machine.specs.Instruction.{Kind, plain, load, store, branch, Instruction, Trace, instruction}
-use Rattle.machine.specs.Rules.{Stage, pre, IF, ID, EX, MEM, ST, WB, post, same, Place, shortOf, isLoad, isStore, isBranch, hits, reads, missesData, entry, budget}
+use Rattle.machine.specs.Instruction.{Trace, instruction}
+use Rattle.machine.specs.Rules.{Stage, pre, IF, ID, EX, MEM, ST, WB, post, same, isStore, entry, budget}
 use Rattle.machine.specs.State.{emptySlot, slot}
 use Rattle.machine.specs.declared.Slot.{Slot}
 use Rattle.machine.specs.declared.State.{State}
 use Rattle.machine.proofs.Connectives.{clash}
+use Rattle.machine.proofs.Hazards.{holds}
 
 -- the instruction in a stage that may move on; in pre, the one to be fetched next
 unfoldable pub standing : Trace → State → Stage → Slot
@@ -24,31 +25,12 @@ standing trace s ST = s .ST
 standing trace s WB = s .WB
 standing trace s post = emptySlot
 
--- an instruction of this kind, at this place, has not yet reached the place up to which others may wait for it
-unfoldable pub pending : Kind → Place → Bool
-pending plain p = false
-pending load p = shortOf p MEM 0
-pending store p = shortOf p ST 0
-pending branch p = shortOf p EX 0
-
--- in this stage the first instruction waits for the second, if the second is older and pending
-unfoldable pub waitsFor : Stage → Instruction → Instruction → Bool
-waitsFor pre i j = isBranch (j .kind) or not (hits (i .fetch))
-waitsFor IF i j = false
-waitsFor ID i j = isLoad (j .kind) and reads i (j .target)
-waitsFor EX i j = isStore (j .kind) and missesData i
-waitsFor MEM i j = false
-waitsFor ST i j = false
-waitsFor WB i j = false
-waitsFor post i j = false
-
 -- the slot of stage k holds instruction i back in its stage
 unfoldable pub holdsBack : Trace → Stage → ℕ → Stage → Slot → Bool
 holdsBack trace at i k held =
     held .filled
     and ltb (held .index) i
-    and (pending (instruction trace (held .index) .kind) (record { stage = k; count = held .count })
-    and waitsFor at (instruction trace i) (instruction trace (held .index)))
+    and holds at (instruction trace i) (instruction trace (held .index)) (record { stage = k; count = held .count })
 
 unfoldable pub heldBack : Trace → State → Stage → ℕ → Bool
 heldBack trace s at i =

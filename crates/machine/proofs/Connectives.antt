@@ -165,12 +165,6 @@ pub not-passes : (b : Bool) → b ≡ false → not b ≡ true
 not-passes true e = sym e
 not-passes false e = refl
 
--- a conjunction that fails although one side passes: the other side fails
-pub and-fails : (a b : Bool) → a and b ≡ false → a ≡ true → b ≡ false
-unfolding _and_
-and-fails true b e p = e
-and-fails false b e p = absurd (false≢true p)
-
 -- a side whose value is known can be left out
 pub and-left : (a b : Bool) → a ≡ true → a and b ≡ b
 unfolding _and_

@@ -1,82 +1,54 @@
--- The behaviour of a trace's instructions, as the schedule needs it, from their kinds, flags and latencies. This is the only place where the
--- schedule depends on the rules: a rule that holds instructions back is a line of `waits` here, and `Readiness` shows that the rules say the same.
-use Prim.Native.Nat.{ℕ, zero, suc, _+_, _-_, _≤_}
+-- The behaviour of a trace's instructions, as the schedule needs it, from what they do, their flags and latencies.
+use Prim.Native.Nat.{ℕ, _+_, _-_, _≤_}
 use mathlib.Core.Bool.{Bool, true, false, cond}
 use mathlib.Core.Path.{_≡_, refl}
 use native.Mathlib.Omega.{arith}
 use Rattle.machine.specs.Test.{_and_}
-use Rattle.machine.specs.Instruction.{Kind, plain, load, store, branch, Instruction, Trace, instruction}
-use Rattle.machine.specs.Rules.{isLoad, isStore, hits, misses, entry, reads, missesData}
+use Rattle.machine.specs.Instruction.{Instruction, Trace, instruction}
+use Rattle.machine.specs.Rules.{Stage, rank, isLoad, isStore, misses, entry}
 use Rattle.machine.proofs.Numbers.{sum}
+use Rattle.machine.proofs.Connectives.{Value, passed, failed, value}
 use Rattle.machine.proofs.Schedule.{Behaviour}
 use Rattle.machine.proofs.Levels.{stageAlong}
+use Rattle.machine.proofs.Doing.{Does, holding, loading, storing, nothing, does}
+use Rattle.machine.proofs.Hazards.{goalOf, goal, waitsFor}
 
--- The level that an older instruction, by its kind, must have reached before another is fetched, by whether that fetch hits;
-unfoldable pub waitsInPre : Kind → Bool → ℕ
-waitsInPre plain fetchHits = 0
-waitsInPre load true = 0
-waitsInPre load false = 4
-waitsInPre store true = 0
-waitsInPre store false = 5
-waitsInPre branch fetchHits = 3
-
--- before another leaves ID, by whether that one reads the older one's target;
-unfoldable pub waitsInID : Kind → Bool → ℕ
-waitsInID plain readsTarget = 0
-waitsInID load true = 4
-waitsInID load false = 0
-waitsInID store readsTarget = 0
-waitsInID branch readsTarget = 0
-
--- and before another leaves EX, by whether that one's data access misses.
-unfoldable pub waitsInEX : Kind → Bool → ℕ
-waitsInEX plain dataMisses = 0
-waitsInEX load dataMisses = 0
-waitsInEX store true = 5
-waitsInEX store false = 0
-waitsInEX branch dataMisses = 0
-
--- at a level, the first instruction waits until the second, an older one, has reached the given level with count 0
+-- at a level, the first instruction waits until the second, an older one, has reached the given level with count 0; in the last stage, ST or WB,
+-- nothing is waited for
 unfoldable pub waits : ℕ → Instruction → Instruction → ℕ
-unfolding waitsInPre waitsInID waitsInEX
-waits zero i older = waitsInPre (older .kind) (hits (i .fetch))
-waits (suc zero) i older = 0
-waits (suc (suc zero)) i older = waitsInID (older .kind) (reads i (older .target))
-waits (suc (suc (suc zero))) i older = waitsInEX (older .kind) (missesData i)
-waits (suc (suc (suc (suc s)))) i older = 0
+waits s i older = cond (waitsFor (stageAlong false s) i older) (rank (goal (older .kind))) 0
 
-pre-reach : (k : Kind) (x : Bool) → waitsInPre k x ≤ 5
-unfolding waitsInPre
-pre-reach plain x = omega arith
-pre-reach load true = omega arith
-pre-reach load false = omega arith
-pre-reach store true = omega arith
-pre-reach store false = omega arith
-pre-reach branch x = omega arith
+pub waits-for : (s : ℕ) (i older : Instruction) {to : Stage} →
+    waitsFor (stageAlong false s) i older ≡ true →
+    goal (older .kind) ≡ to →
+    waits s i older ≡ rank to
+unfolding waits
+waits-for s i older e g = rw (e, g)
 
-ID-reach : (k : Kind) (x : Bool) → waitsInID k x ≤ 5
-unfolding waitsInID
-ID-reach plain x = omega arith
-ID-reach load true = omega arith
-ID-reach load false = omega arith
-ID-reach store x = omega arith
-ID-reach branch x = omega arith
+-- what is waited for ends by a time, if the goal is reached by then; not waiting costs nothing
+pub waits-within : (s : ℕ) (i older : Instruction) (d : ℕ → ℕ) (m : ℕ) → d 0 ≤ m →
+    (waitsFor (stageAlong false s) i older ≡ true → d (rank (goal (older .kind))) ≤ m) →
+    d (waits s i older) ≤ m
+unfolding waits
+waits-within s i older d m o h = pick (value (waitsFor (stageAlong false s) i older))
+  where
+    pick : Value (waitsFor (stageAlong false s) i older) → d (cond (waitsFor (stageAlong false s) i older) (rank (goal (older .kind))) 0) ≤ m
+    pick (passed e) = rw e (h e)
+    pick (failed e) = rw e o
 
-EX-reach : (k : Kind) (x : Bool) → waitsInEX k x ≤ 5
-unfolding waitsInEX
-EX-reach plain x = omega arith
-EX-reach load x = omega arith
-EX-reach store true = omega arith
-EX-reach store false = omega arith
-EX-reach branch x = omega arith
+pub goal-reach : {h l s : Bool} → Does h l s → rank (goalOf h l s) ≤ 5
+goal-reach holding = omega arith
+goal-reach loading = omega arith
+goal-reach storing = omega arith
+goal-reach nothing = omega arith
+
+at-most : (w : Bool) {m n : ℕ} → m ≤ n → cond w m 0 ≤ n
+at-most true l = l
+at-most false l = omega arith
 
 waits-reach : (s : ℕ) (i older : Instruction) → waits s i older ≤ 5
-unfolding waits
-waits-reach zero i older = pre-reach (older .kind) (hits (i .fetch))
-waits-reach (suc zero) i older = omega arith
-waits-reach (suc (suc zero)) i older = ID-reach (older .kind) (reads i (older .target))
-waits-reach (suc (suc (suc zero))) i older = EX-reach (older .kind) (missesData i)
-waits-reach (suc (suc (suc (suc s)))) i older = omega arith
+unfolding waits goal
+waits-reach s i older = at-most (waitsFor (stageAlong false s) i older) (goal-reach (does (older .kind)))
 
 -- the entry count of an instruction at a level
 abbrev pub countAt : Instruction → ℕ → ℕ
@@ -92,11 +64,14 @@ last-count i false = refl
 abbrev pub fetchCount : Bool → ℕ → ℕ
 fetchCount missed n = cond missed n 0
 
-abbrev pub dataCount : Kind → Bool → ℕ → ℕ
-dataCount kind missed n = cond (isLoad kind and missed) n 0 + cond (isStore kind) (cond missed (n - 1) 0) 0
+abbrev pub dataCount : Bool → Bool → Bool → ℕ → ℕ
+dataCount loads stores missed n = cond (loads and missed) n 0 + cond stores (cond missed (n - 1) 0) 0
 
 pub counts-are : (i : Instruction) →
-    sum (countAt i) 6 ≡ fetchCount (misses (i .fetch)) (i .fetchLatency) + i .executionLatency + dataCount (i .kind) (misses (i .access)) (i .dataLatency)
+    sum (countAt i) 6
+    ≡ fetchCount (misses (i .fetch)) (i .fetchLatency)
+    + i .executionLatency
+    + dataCount (isLoad (i .kind)) (isStore (i .kind)) (misses (i .access)) (i .dataLatency)
 unfolding sum entry
 counts-are i = let e = last-count i (isStore (i .kind)) in omega arith
 
@@ -105,7 +80,7 @@ unfolding entry
 no-count-in-pre i = refl
 
 unfoldable pub behaviour : Trace → Behaviour
-unfolding no-count-in-pre waits-reach pre-reach ID-reach EX-reach
+unfolding no-count-in-pre waits-reach goal-reach at-most
 behaviour trace =
     record {
       count = λ i s. countAt (instruction trace i) s;

@@ -3,10 +3,11 @@ use Prim.Native.Nat.{ℕ, zero, suc, _≤_, _<_}
 use mathlib.Core.Bool.{Bool, true, false, cond}
 use mathlib.Core.Path.{_≡_, refl, sym, subst, ap, _∙_}
 use native.Mathlib.Omega.{arith}
-use Rattle.machine.specs.Instruction.{Kind, plain, load, store, branch}
+use Rattle.machine.specs.Instruction.{Kind}
 use Rattle.machine.specs.Rules.{Stage, pre, IF, ID, EX, MEM, ST, WB, post, next, rank, same, isStore}
 use Rattle.machine.proofs.Numbers.{Last, before, at, last}
 use Rattle.machine.proofs.Stages.{same-stage, stage-same, stages-differ}
+use Rattle.machine.proofs.Doing.{after-MEM}
 use Rattle.machine.proofs.Schedule.{Behaviour, shares, Together, early, late, together, shares-early, shares-last}
 
 -- the stage of a level, by the lane: ST is the last stage of a store's lane, WB of the other
@@ -80,18 +81,17 @@ same-shares b i j s l e = pick (last s 5 (omega arith))
         subst (λ (x : ℕ). shares b i j x ≡ true) (sym f) (shares-last b i j (sym (lane-of (b .lane j)) ∙ ap isST g5 ∙ lane-of (b .lane i)))
 
 -- the next stage is the stage of the next level
+after-last : (kind : Kind) (lane : Bool) → next kind (stageAlong lane 5) ≡ post
+unfolding next
+after-last kind true = refl
+after-last kind false = refl
+
 pub next-stage : (kind : Kind) (s : ℕ) → s < 6 → next kind (stageAlong (isStore kind) s) ≡ stageAlong (isStore kind) (suc s)
 unfolding next
 next-stage kind zero l = refl
 next-stage kind (suc zero) l = refl
 next-stage kind (suc (suc zero)) l = refl
 next-stage kind (suc (suc (suc zero))) l = refl
-next-stage plain (suc (suc (suc (suc zero)))) l = refl
-next-stage load (suc (suc (suc (suc zero)))) l = refl
-next-stage store (suc (suc (suc (suc zero)))) l = refl
-next-stage branch (suc (suc (suc (suc zero)))) l = refl
-next-stage plain (suc (suc (suc (suc (suc zero))))) l = refl
-next-stage load (suc (suc (suc (suc (suc zero))))) l = refl
-next-stage store (suc (suc (suc (suc (suc zero))))) l = refl
-next-stage branch (suc (suc (suc (suc (suc zero))))) l = refl
+next-stage kind (suc (suc (suc (suc zero)))) l = after-MEM kind
+next-stage kind (suc (suc (suc (suc (suc zero))))) l = after-last kind (isStore kind)
 next-stage kind (suc (suc (suc (suc (suc (suc s)))))) l = absurd (omega arith)

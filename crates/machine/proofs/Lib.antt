@@ -5,6 +5,8 @@ pub mod Budget
 pub mod Orderly
 pub mod Places
 pub mod Spots
+pub mod Doing
+pub mod Hazards
 pub mod BySlots
 pub mod Ready
 pub mod Moving

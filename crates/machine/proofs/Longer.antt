@@ -7,12 +7,15 @@ use mathlib.Core.Path.{_≡_, refl, sym, subst, _∙_}
 use native.Mathlib.Omega.{arith}
 use lib.ListN.{length}
 use Rattle.machine.specs.Test.{_and_}
-use Rattle.machine.specs.Instruction.{Kind, plain, load, store, branch, Instruction, Trace, instruction}
-use Rattle.machine.specs.Rules.{misses, reads, missesData}
+use Rattle.machine.specs.Instruction.{Instruction, Trace, instruction}
+use Rattle.machine.specs.Rules.{Stage, pre, IF, ID, EX, MEM, ST, WB, post, misses, reads, missesData}
 use Rattle.machine.specs.Order.{SlowerInstruction, Slower, slower-none, slower-more, SameFlags, same-none, same-more, added}
 use Rattle.machine.specs.Claims.{AddedAtMost}
 use Rattle.machine.proofs.Numbers.{by-age, greatest-le, sum, sum-grows, sum-first}
+use Rattle.machine.proofs.Levels.{stageAlong}
 use Rattle.machine.proofs.Schedule.{Behaviour, Together, early, late, together, enters, done, starts, own, share, wait, least-plus}
+use Rattle.machine.proofs.Doing.{Does, holding, loading, storing, nothing, does}
+use Rattle.machine.proofs.Hazards.{waitsFor}
 use Rattle.machine.proofs.Derivation.{waits, countAt, fetchCount, dataCount, counts-are, behaviour}
 use Rattle.machine.proofs.Finish.{lastLeaves, leaves-by, finish-is}
 use Rattle.machine.proofs.Monotone.{shares-alike}
@@ -99,14 +102,14 @@ added-fetch : (x : Bool) (m n : ℕ) → m ≤ n → fetchCount x n ≤ fetchCou
 added-fetch true m n l = omega arith
 added-fetch false m n l = omega arith
 
-added-data : (k : Kind) (x : Bool) (m n : ℕ) → m ≤ n → dataCount k x n ≤ dataCount k x m + (n - m)
+added-data : {h l s : Bool} → Does h l s → (x : Bool) (m n : ℕ) → m ≤ n → dataCount l s x n ≤ dataCount l s x m + (n - m)
 unfolding _and_
-added-data plain x m n l = omega arith
-added-data load true m n l = omega arith
-added-data load false m n l = omega arith
-added-data store true m n l = omega arith
-added-data store false m n l = omega arith
-added-data branch x m n l = omega arith
+added-data holding x m n l = omega arith
+added-data loading true m n l = omega arith
+added-data loading false m n l = omega arith
+added-data storing true m n l = omega arith
+added-data storing false m n l = omega arith
+added-data nothing x m n l = omega arith
 
 added-counts : (i j : Instruction) → SlowerInstruction i j → j .fetch ≡ i .fetch → j .access ≡ i .access →
     sum (countAt j) 6 ≤ sum (countAt i) 6
@@ -114,7 +117,7 @@ added-counts : (i j : Instruction) → SlowerInstruction i j → j .fetch ≡ i 
 added-counts i j h f g =
     rw (counts-are i, counts-are j, f, g, h .kind)
     (let p = added-fetch (misses (i .fetch)) (i .fetchLatency) (j .fetchLatency) (h .fetchLatency) in
-    let q = added-data (i .kind) (misses (i .access)) (i .dataLatency) (j .dataLatency) (h .dataLatency) in
+    let q = added-data (does (i .kind)) (misses (i .access)) (i .dataLatency) (j .dataLatency) (h .dataLatency) in
     omega arith)
 
 traceCounts : Trace → ℕ
@@ -133,14 +136,22 @@ added-at-most-counts (slower-more {a} {b} {first} {second} h hs) (same-more f g 
     rw (first-counts a first, first-counts b second) (omega arith)
 
 -- with equal flags, equal waits
+waiting-alike : (k : Stage) (i j older elder : Instruction) → SlowerInstruction i j → SlowerInstruction older elder → j .fetch ≡ i .fetch → j .access ≡ i .access →
+    waitsFor k j elder ≡ waitsFor k i older
+unfolding waitsFor reads missesData
+waiting-alike pre i j older elder h o f g = rw (o .kind, f)
+waiting-alike IF i j older elder h o f g = refl
+waiting-alike ID i j older elder h o f g = rw (o .kind, o .target, h .source1, h .source2)
+waiting-alike EX i j older elder h o f g = rw (o .kind, h .kind, g)
+waiting-alike MEM i j older elder h o f g = refl
+waiting-alike ST i j older elder h o f g = refl
+waiting-alike WB i j older elder h o f g = refl
+waiting-alike post i j older elder h o f g = refl
+
 waits-alike : (s : ℕ) (i j older elder : Instruction) → SlowerInstruction i j → SlowerInstruction older elder → j .fetch ≡ i .fetch → j .access ≡ i .access →
     waits s j elder ≡ waits s i older
-unfolding waits reads missesData
-waits-alike zero i j older elder h o f g = rw (o .kind, f)
-waits-alike (suc zero) i j older elder h o f g = refl
-waits-alike (suc (suc zero)) i j older elder h o f g = rw (o .kind, o .target, h .source1, h .source2)
-waits-alike (suc (suc (suc zero))) i j older elder h o f g = rw (o .kind, h .kind, g)
-waits-alike (suc (suc (suc (suc s)))) i j older elder h o f g = refl
+unfolding waits
+waits-alike s i j older elder h o f g = rw (waiting-alike (stageAlong false s) i j older elder h o f g, o .kind)
 
 fetch-at : {first second : Trace} → SameFlags first second → (i : ℕ) → instruction second i .fetch ≡ instruction first i .fetch
 fetch-at same-none i = refl

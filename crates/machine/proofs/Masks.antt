@@ -2,15 +2,17 @@
 use Prim.Native.Nat.{ℕ, zero, suc, _+_, _*_, _^_, _/_, _%_, _≤_, _<_}
 use native.Mathlib.Omega.{arith}
 use mathlib.Core.Bool.{Bool, true, false, not, cond}
-use mathlib.Core.Path.{_≡_, refl, sym, ap, ap₂, fun-ext, _∙_}
+use mathlib.Core.Path.{_≡_, refl, sym, ap, ap₂, _∙_}
 use lib.Dec.{eqb, ltb}
 use Rattle.machine.specs.Test.{_and_, _or_}
-use Rattle.machine.specs.Instruction.{Kind, plain, load, store, branch, Trace}
+use Rattle.machine.specs.Instruction.{Kind, Trace}
 use Rattle.machine.specs.Rules.{Stage, pre, IF, ID, EX, MEM, ST, WB, post, same, further, shortOf}
 use Rattle.machine.specs.declared.State.{State}
 use Rattle.machine.proofs.Connectives.{true-and, or-l, or-r, and-failed-l}
 use Rattle.machine.proofs.Stages.{level, stageAt, eight}
-use Rattle.machine.proofs.BySlots.{standing, pending, goes, occupied, storeInMEM, nextIn, movesAt, freeAt, moves-at, free-at, leaves}
+use Rattle.machine.proofs.Doing.{Does, holding, loading, storing, nothing, does}
+use Rattle.machine.proofs.Hazards.{goalOf, goal, pendingTo, pending}
+use Rattle.machine.proofs.BySlots.{standing, goes, occupied, nextIn, movesAt, freeAt, moves-at, free-at}
 use Rattle.machine.proofs.Flow.{bit}
 
 -- the level after another, given whether MEM holds a store
@@ -141,33 +143,32 @@ occupied-post trace s = refl
 
 -- Pending, by levels: the level that an instruction of the kind has to reach with count 0.
 abbrev pub goalLevel : Kind → ℕ
-goalLevel plain = 0
-goalLevel load = 4
-goalLevel store = 5
-goalLevel branch = 3
+goalLevel kind = level (goal kind)
 
--- short of (EX, 0), (MEM, 0) or (ST, 0), for a level that has a slot
 abbrev pub shortLevel : ℕ → ℕ → ℕ → Bool
 shortLevel goal n c = ltb n goal or (eqb n goal and ltb 0 c)
 
-pub pending-level : (kind : Kind) (n c : ℕ) → n ≤ 7 → 0 < n → pending kind (record { stage = stageAt n; count = c }) ≡ shortLevel (goalLevel kind) n c
-unfolding pending shortOf further _and_ _or_
-pending-level plain n c l p =
-    upTo (λ n. 0 < n → false ≡ shortLevel 0 n c)
-    (λ p. absurd (omega arith))
-    (λ p. refl)
-    (λ p. refl)
-    (λ p. refl)
-    (λ p. refl)
-    (λ p. refl)
-    (λ p. refl)
-    (λ p. refl)
-    n
-    l
-    p
-pending-level load n c l p =
-    upTo (λ n. shortOf (record { stage = stageAt n; count = c }) MEM 0 ≡ shortLevel 4 n c) refl refl refl refl refl refl refl refl n l
-pending-level store n c l p =
-    upTo (λ n. shortOf (record { stage = stageAt n; count = c }) ST 0 ≡ shortLevel 5 n c) refl refl refl refl refl refl refl refl n l
-pending-level branch n c l p =
-    upTo (λ n. shortOf (record { stage = stageAt n; count = c }) EX 0 ≡ shortLevel 3 n c) refl refl refl refl refl refl refl refl n l
+-- for a level that has a slot
+module _ (n c : ℕ) (l : n ≤ 7) (p : 0 < n) where
+  short-level : {h l s : Bool} → Does h l s → pendingTo (goalOf h l s) (record { stage = stageAt n; count = c }) ≡ shortLevel (level (goalOf h l s)) n c
+  unfolding shortOf further _and_ _or_
+  short-level holding = upTo (λ n. shortOf (record { stage = stageAt n; count = c }) EX 0 ≡ shortLevel 3 n c) refl refl refl refl refl refl refl refl n l
+  short-level loading = upTo (λ n. shortOf (record { stage = stageAt n; count = c }) MEM 0 ≡ shortLevel 4 n c) refl refl refl refl refl refl refl refl n l
+  short-level storing = upTo (λ n. shortOf (record { stage = stageAt n; count = c }) ST 0 ≡ shortLevel 5 n c) refl refl refl refl refl refl refl refl n l
+  short-level nothing =
+      upTo (λ n. 0 < n → false ≡ shortLevel 0 n c)
+      (λ p. absurd (omega arith))
+      (λ p. refl)
+      (λ p. refl)
+      (λ p. refl)
+      (λ p. refl)
+      (λ p. refl)
+      (λ p. refl)
+      (λ p. refl)
+      n
+      l
+      p
+
+  pub pending-level : (kind : Kind) → pending kind (record { stage = stageAt n; count = c }) ≡ shortLevel (goalLevel kind) n c
+  unfolding pending goal
+  pending-level kind = short-level (does kind)

@@ -7,23 +7,17 @@ use mathlib.Core.Path.{_≡_, refl, sym, ap, ap₂, subst, _∙_}
 use lib.Dec.{eqb}
 use lib.ListN.{length}
 use Rattle.machine.specs.Test.{_and_, _or_, every}
-use Rattle.machine.specs.Instruction.{Kind, plain, load, store, branch, Trace, instruction}
-use Rattle.machine.specs.Rules.{Stage, pre, IF, ID, EX, MEM, ST, WB, post, next, same, Place, isStore, noOlder, readyIn, ready, budget, movesWithin, willBeFreeWithin, moves}
+use Rattle.machine.specs.Instruction.{Trace, instruction}
+use Rattle.machine.specs.Rules.{Stage, pre, IF, ID, EX, MEM, ST, WB, post, next, same, Place, noOlder, readyIn, ready, budget, movesWithin, willBeFreeWithin, moves}
 use Rattle.machine.specs.State.{slot, placeOf, Orderly}
 use Rattle.machine.specs.declared.Slot.{Slot}
 use Rattle.machine.specs.declared.State.{State}
 use Rattle.machine.proofs.Connectives.{clash, Value, passed, failed, value, both-ways, and-failed-l, and-failed-r, implied, implies, or-l, true-and, every-at, every-below, none-fails}
 use Rattle.machine.proofs.Stages.{same-stage, stage-same, inside, between}
 use Rattle.machine.proofs.Spots.{held-filled, held-index, held-at, slot-fetched, place-held, place-waiting}
+use Rattle.machine.proofs.Doing.{after-MEM}
 use Rattle.machine.proofs.BySlots.{standing, heldBack, goes, occupied, storeInMEM, nextIn, movesIn, freeIn, movesAt, leaves}
 use Rattle.machine.proofs.Ready.{ready-by-slots}
-
-after-MEM : (kind : Kind) → next kind MEM ≡ nextIn (isStore kind) MEM
-unfolding next nextIn
-after-MEM plain = refl
-after-MEM load = refl
-after-MEM store = refl
-after-MEM branch = refl
 
 next-not-pre : (inMEM : Bool) (k : Stage) → same (nextIn inMEM k) pre ≡ false
 unfolding nextIn

@@ -1,96 +1,60 @@
--- Ready, by slots: the rules' conditions on older instructions are joined into one test of each older instruction, and in an orderly state those
--- that can hold another back are in slots.
+-- Ready, by slots: in an orderly state the older instructions that can hold another back are in slots.
 use Prim.Native.Nat.{ℕ, _≤_, _<_}
 use native.Mathlib.Omega.{arith}
 use mathlib.Core.Bool.{Bool, true, false, not}
-use mathlib.Core.Path.{_≡_, refl, sym, ap, subst, fun-ext, _∙_}
+use mathlib.Core.Path.{_≡_, refl, ap, subst, _∙_}
 use borrow.Author.Tests.{ltb-true, lt-ltb, not-true}
 use Rattle.machine.specs.Test.{_and_, _or_, none}
-use Rattle.machine.specs.Instruction.{Kind, plain, load, store, branch, Instruction, Trace, instruction}
-use Rattle.machine.specs.Rules.{Stage, pre, IF, ID, EX, MEM, ST, WB, post, same, Place, Places, further, shortOf, isLoad, isStore, isBranch, hits, noOlder, readyIn, ready}
+use Rattle.machine.specs.Instruction.{Kind, Trace, instruction}
+use Rattle.machine.specs.Rules.{Stage, pre, IF, ID, EX, MEM, ST, WB, post, same, Place, Places, further, shortOf, noOlder, readyIn, ready}
 use Rattle.machine.specs.State.{slot, placeOf, Orderly}
 use Rattle.machine.specs.declared.State.{State}
-use Rattle.machine.proofs.Connectives.{clash, Value, passed, failed, value, both-ways, and-l, and-r, and-both, and-failed-l, true-and, and-true, and-false, or-false, or-failed, or-failed-l, or-failed-r, none-at, none-below, none-either, none-unless}
+use Rattle.machine.proofs.Connectives.{clash, Value, passed, failed, value, both-ways, and-l, and-r, and-both, and-failed-l, or-left, or-failed, or-failed-l, or-failed-r, none-at, none-below, none-same}
 use Rattle.machine.proofs.Stages.{eight}
 use Rattle.machine.proofs.Spots.{Spot, waiting, held, left, spot, place-held, not-waiting}
-use Rattle.machine.proofs.BySlots.{pending, waitsFor, holdsBack, heldBack}
+use Rattle.machine.proofs.Doing.{Does, holding, loading, storing, nothing, does}
+use Rattle.machine.proofs.Hazards.{goalOf, goal, pendingTo, pending, queues, holds, ready-holds}
+use Rattle.machine.proofs.BySlots.{holdsBack, heldBack}
 
--- in this stage the first instruction waits for the second, an older one at this place
-abbrev pub waits : Stage → Instruction → Instruction → Place → Bool
-waits k i j p = pending (j .kind) p and waitsFor k i j
+-- where no older instruction is in pre, ready is whether one is waited for
+not-queuing : (k : Stage) (p : Place) → same (p .stage) pre ≡ false → queues k p ≡ false
+unfolding queues
+not-queuing pre p e = e
+not-queuing IF p e = refl
+not-queuing ID p e = refl
+not-queuing EX p e = refl
+not-queuing MEM p e = refl
+not-queuing ST p e = refl
+not-queuing WB p e = refl
+not-queuing post p e = refl
 
--- Each test of the rules, for an older instruction of each kind.
-in-pre : (kind : Kind) (p : Place) (hit : Bool) →
-    (isBranch kind and shortOf p EX 0) or (not hit and (isLoad kind and shortOf p MEM 0 or isStore kind and shortOf p ST 0))
-    ≡ pending kind p and (isBranch kind or not hit)
-unfolding pending _and_ _or_
-in-pre plain p true = refl
-in-pre plain p false = refl
-in-pre load p true = sym (and-false (shortOf p MEM 0))
-in-pre load p false = or-false (shortOf p MEM 0) ∙ sym (and-true (shortOf p MEM 0))
-in-pre store p true = sym (and-false (shortOf p ST 0))
-in-pre store p false = sym (and-true (shortOf p ST 0))
-in-pre branch p true = or-false (shortOf p EX 0) ∙ sym (and-true (shortOf p EX 0))
-in-pre branch p false = or-false (shortOf p EX 0) ∙ sym (and-true (shortOf p EX 0))
+ready-waits : (trace : Trace) (places : Places) (i : ℕ) →
+    ((j : ℕ) → j < i → same (places j .stage) pre ≡ false) →
+    (k : Stage) →
+    readyIn k trace places i ≡ noOlder trace places i (holds k (instruction trace i))
+unfolding noOlder
+ready-waits trace places i fetched k =
+    ready-holds trace places i k ∙ none-same _ _ i (λ j l. or-left _ _ (not-queuing k (places j) (fetched j l)))
 
-in-ID : (kind : Kind) (p : Place) (read : Bool) → isLoad kind and shortOf p MEM 0 and read ≡ pending kind p and (isLoad kind and read)
-unfolding pending _and_
-in-ID plain p read = refl
-in-ID load p read = refl
-in-ID store p read = sym (and-false (shortOf p ST 0))
-in-ID branch p read = sym (and-false (shortOf p EX 0))
-
-in-EX :
-    (kind : Kind) (p : Place) (misses : Bool) →
-    not (not misses) and (isStore kind and shortOf p ST 0) ≡ pending kind p and (isStore kind and misses)
-unfolding pending _and_
-in-EX plain p true = refl
-in-EX plain p false = refl
-in-EX load p true = sym (and-false (shortOf p MEM 0))
-in-EX load p false = sym (and-false (shortOf p MEM 0))
-in-EX store p true = sym (and-true (shortOf p ST 0))
-in-EX store p false = sym (and-false (shortOf p ST 0))
-in-EX branch p true = sym (and-false (shortOf p EX 0))
-in-EX branch p false = sym (and-false (shortOf p EX 0))
-
-none-alike : (a b : ℕ → Bool) (n : ℕ) → ((k : ℕ) → a k ≡ b k) → none a n ≡ none b n
-none-alike a b n h = ap (λ (t : ℕ → Bool). none t n) (fun-ext h)
-
-module _ (trace : Trace) (places : Places) (i : ℕ) where
-  -- where no older instruction is in pre, ready is one test
-  pub ready-waits :
-      noOlder trace places i (λ j p. same (p .stage) pre) ≡ true →
-      (k : Stage) →
-      readyIn k trace places i ≡ noOlder trace places i (waits k (instruction trace i))
-  unfolding readyIn noOlder waitsFor
-  ready-waits e pre =
-      rw (e, true-and)
-      (ap (λ (t : Bool). noOlder trace places i (λ j p. isBranch (j .kind) and shortOf p EX 0) and t)
-      (ap (λ (t : Bool). hits (instruction trace i .fetch) or t) (none-either _ _ i) ∙ none-unless _ _ i)
-      ∙ none-either _ _ i
-      ∙ none-alike _ _ i (λ j. in-pre (instruction trace j .kind) (places j) (hits (instruction trace i .fetch))))
-  ready-waits e IF = sym (none-below _ i (λ j h. and-false _))
-  ready-waits e ID = none-alike _ _ i (λ j. in-ID (instruction trace j .kind) (places j) _)
-  ready-waits e EX = none-unless _ _ i ∙ none-alike _ _ i (λ j. in-EX (instruction trace j .kind) (places j) _)
-  ready-waits e MEM = sym (none-below _ i (λ j h. and-false _))
-  ready-waits e ST = sym (none-below _ i (λ j h. and-false _))
-  ready-waits e WB = sym (none-below _ i (λ j h. and-false _))
-  ready-waits e post = sym (none-below _ i (λ j h. and-false _))
+-- one that has left is not pending
+left-goal : {h l s : Bool} → Does h l s → pendingTo (goalOf h l s) (record { stage = post; count = 0 }) ≡ false
+unfolding shortOf further _and_ _or_
+left-goal holding = refl
+left-goal loading = refl
+left-goal storing = refl
+left-goal nothing = refl
 
 pending-left : (kind : Kind) → pending kind (record { stage = post; count = 0 }) ≡ false
-unfolding pending shortOf further _and_ _or_
-pending-left plain = refl
-pending-left load = refl
-pending-left store = refl
-pending-left branch = refl
+unfolding pending goal
+pending-left kind = left-goal (does kind)
 
 module _ (trace : Trace) (s : State) (o : Orderly trace s) (k : Stage) (i : ℕ) where
   test : ℕ → Place → Bool
-  test j p = waits k (instruction trace i) (instruction trace j) p
+  test j p = holds k (instruction trace i) (instruction trace j) p
 
   -- where no older instruction is waited for, no slot holds the instruction back
   slot-waits :
-      noOlder trace (placeOf s) i (waits k (instruction trace i)) ≡ true →
+      noOlder trace (placeOf s) i (holds k (instruction trace i)) ≡ true →
       (at : Stage) →
       Value (holdsBack trace k i at (slot s at)) →
       holdsBack trace k i at (slot s at) ≡ false
@@ -133,11 +97,11 @@ module _ (trace : Trace) (s : State) (o : Orderly trace s) (k : Stage) (i : ℕ)
   unfolding test
   spot-waits h e j l (waiting w) = absurd (omega arith)
   spot-waits h e j l (held at w f d) =
-      subst (λ (j : ℕ). waits k (instruction trace i) (instruction trace j) (record { stage = at; count = slot s at .count }) ≡ false) d
+      subst (λ (j : ℕ). holds k (instruction trace i) (instruction trace j) (record { stage = at; count = slot s at .count }) ≡ false) d
       (not-held at f (omega arith) (no-slot e at) (value _))
   spot-waits h e j l (left w none) = and-failed-l _ _ (pending-left (instruction trace j .kind))
 
-  waits-by-slots : i ≤ s .fetched → noOlder trace (placeOf s) i (waits k (instruction trace i)) ≡ not (heldBack trace s k i)
+  waits-by-slots : i ≤ s .fetched → noOlder trace (placeOf s) i (holds k (instruction trace i)) ≡ not (heldBack trace s k i)
   unfolding noOlder heldBack test
   waits-by-slots h = both-ways _ _ forth back
     where
@@ -154,5 +118,5 @@ module _ (trace : Trace) (s : State) (o : Orderly trace s) (k : Stage) (i : ℕ)
   unfolding ready noOlder
   ready-by-slots h e =
       ap (λ (k : Stage). readyIn k trace (placeOf s) i) e
-      ∙ ready-waits trace (placeOf s) i (none-below _ i (λ j l. not-waiting trace s o j (omega arith))) k
+      ∙ ready-waits trace (placeOf s) i (λ j l. not-waiting trace s o j (omega arith)) k
       ∙ waits-by-slots h

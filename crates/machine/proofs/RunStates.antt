@@ -1,16 +1,13 @@
 -- The states of a run are orderly and give every instruction the place that the rules give it after as many cycles. By induction on the cycles; the
--- schedule gives the places, since it says what a cycle makes of any places that agree with it within the trace. So the states of two runs are
--- ordered as the places are, also where each run stops at its finishing time.
+-- schedule gives the places, since it says what a cycle makes of any places that agree with it within the trace. Nothing changes where a run stops at
+-- its finishing time.
 use Prim.Native.Nat.{ℕ, zero, suc, _<_, min, zero-le}
-use mathlib.Core.Bool.{false}
 use mathlib.Core.Path.{_≡_, sym, subst, _∙_}
-use native.Mathlib.Omega.{arith}
 use lib.ListN.{length}
 use Rattle.machine.specs.Instruction.{Trace}
-use Rattle.machine.specs.Rules.{further, cycle, allPre, after}
+use Rattle.machine.specs.Rules.{cycle, allPre, after}
 use Rattle.machine.specs.State.{start, placeOf, stateOf, Orderly}
 use Rattle.machine.specs.Time.{finish}
-use Rattle.machine.specs.Order.{Slower}
 use Rattle.machine.specs.Claims.{StatesGivePlaces}
 use Rattle.machine.specs.declared.State.{State}
 use Rattle.machine.proofs.Orderly.{start-is-orderly}
@@ -19,7 +16,6 @@ use Rattle.machine.proofs.Spots.{place-waiting, places-give-state}
 use Rattle.machine.proofs.Step.{cycle-keeps-orderly, cycle-gives-places}
 use Rattle.machine.proofs.Bridge.{cycle-scheduled, bridge}
 use Rattle.machine.proofs.Finish.{run-stops}
-use Rattle.machine.proofs.Slower.{slower-length, ordered}
 
 -- the state after t cycles
 abbrev pub stateAfter : Trace → ℕ → State
@@ -82,12 +78,3 @@ module _ (trace : Trace) where
 
 pub states-give-places : StatesGivePlaces
 states-give-places = run-places
-
-pub runs-ordered :
-    (first second : Trace) →
-    Slower first second →
-    (limit i : ℕ) →
-    i < length first →
-    further (placeOf (stateAfter second (min limit (finish second))) i) (placeOf (stateAfter first (min limit (finish first))) i) ≡ false
-runs-ordered first second h limit i l =
-    rw (run-stops-places first limit i l, run-stops-places second limit i (omega (arith, slower-length h))) (ordered first second h .0 limit i l)

@@ -1,16 +1,18 @@
 -- The slower trace of a pair that demand 3 compares has the slower behaviour: entry counts and waits rise with misses and latencies. So the order
 -- of finishing times and of places follows from the schedule's.
 use Prim.Native.Nat.{ℕ, zero, suc, _-_, _≤_}
-use mathlib.Core.Bool.{Bool, true, false, cond}
+use mathlib.Core.Bool.{Bool, true, false, not, cond}
 use mathlib.Core.Path.{_≡_, refl, ap}
 use native.Mathlib.Omega.{arith}
 use lib.ListN.{length}
 use Rattle.machine.specs.Test.{_and_, _or_}
-use Rattle.machine.specs.Instruction.{Kind, plain, load, store, branch, Flag, Instruction, Trace, blank, instruction}
-use Rattle.machine.specs.Rules.{isLoad, isStore, misses, hits, entry, reads, missesData}
+use Rattle.machine.specs.Instruction.{Kind, Flag, Instruction, Trace, blank, instruction}
+use Rattle.machine.specs.Rules.{Stage, pre, IF, ID, EX, MEM, ST, WB, post, rank, isLoad, isStore, holdsFetches, misses, hits, entry, reads, missesData}
 use Rattle.machine.specs.Order.{FlagTo, hit-hit, hit-miss, miss-miss, SlowerInstruction, Slower, slower-none, slower-more}
 use Rattle.machine.specs.Claims.{Ordered}
-use Rattle.machine.proofs.Derivation.{waitsInPre, waitsInEX, waits, countAt, last-count, behaviour}
+use Rattle.machine.proofs.Levels.{stageAlong}
+use Rattle.machine.proofs.Hazards.{goal, waitsFor}
+use Rattle.machine.proofs.Derivation.{waits, countAt, last-count, behaviour}
 use Rattle.machine.proofs.Bridge.{bridge}
 use Rattle.machine.proofs.Finish.{leaves-by, last-leaves-by, finish-is}
 use Rattle.machine.proofs.Monotone.{SlowerBehaviour, enters-later, not-further}
@@ -42,34 +44,41 @@ count-rises i j h (suc (suc (suc (suc (suc zero))))) =
 count-rises i j h (suc (suc (suc (suc (suc (suc s)))))) = omega arith
 
 -- a miss waits for all that a hit waits for
-fetch-waits : {f g : Flag} (k : Kind) → FlagTo f g → waitsInPre k (hits f) ≤ waitsInPre k (hits g)
-unfolding waitsInPre
-fetch-waits plain h = omega arith
-fetch-waits load hit-hit = omega arith
-fetch-waits load hit-miss = omega arith
-fetch-waits load miss-miss = omega arith
-fetch-waits store hit-hit = omega arith
-fetch-waits store hit-miss = omega arith
-fetch-waits store miss-miss = omega arith
-fetch-waits branch h = omega arith
+fetch-waits : {f g : Flag} (h : Bool) → FlagTo f g → h or not (hits f) ≡ true → h or not (hits g) ≡ true
+unfolding _or_
+fetch-waits true t e = refl
+fetch-waits false hit-hit e = e
+fetch-waits false hit-miss e = refl
+fetch-waits false miss-miss e = e
 
-access-waits : {f g : Flag} (k : Kind) (x : Bool) → FlagTo f g → waitsInEX k (x and misses f) ≤ waitsInEX k (x and misses g)
-unfolding waitsInEX _and_
-access-waits plain x h = omega arith
-access-waits load x h = omega arith
-access-waits store true hit-hit = omega arith
-access-waits store true hit-miss = omega arith
-access-waits store true miss-miss = omega arith
-access-waits store false h = omega arith
-access-waits branch x h = omega arith
+access-waits : {f g : Flag} (s x : Bool) → FlagTo f g → s and (x and misses f) ≡ true → s and (x and misses g) ≡ true
+unfolding _and_
+access-waits s x hit-hit e = e
+access-waits true true hit-miss e = refl
+access-waits true false hit-miss e = e
+access-waits false x hit-miss e = e
+access-waits s x miss-miss e = e
+
+waiting-rises : (k : Stage) (i j older elder : Instruction) → SlowerInstruction i j → SlowerInstruction older elder →
+    waitsFor k i older ≡ true → waitsFor k j elder ≡ true
+unfolding waitsFor reads missesData
+waiting-rises pre i j older elder h o e = rw (o .kind) (fetch-waits (holdsFetches (older .kind)) (h .fetch) e)
+waiting-rises IF i j older elder h o e = e
+waiting-rises ID i j older elder h o e = rw (o .kind, o .target, h .source1, h .source2) e
+waiting-rises EX i j older elder h o e = rw (o .kind, h .kind) (access-waits (isStore (older .kind)) (isLoad (i .kind) or isStore (i .kind)) (h .access) e)
+waiting-rises MEM i j older elder h o e = e
+waiting-rises ST i j older elder h o e = e
+waiting-rises WB i j older elder h o e = e
+waiting-rises post i j older elder h o e = e
+
+more-rises : (a b : Bool) {m n : ℕ} → n ≡ m → (a ≡ true → b ≡ true) → cond a m 0 ≤ cond b n 0
+more-rises true b e h = rw (h refl, e) (omega arith)
+more-rises false b e h = omega arith
 
 waits-rise : (s : ℕ) (i j older elder : Instruction) → SlowerInstruction i j → SlowerInstruction older elder → waits s i older ≤ waits s j elder
-unfolding waits reads missesData
-waits-rise zero i j older elder h o = rw (o .kind) (fetch-waits (older .kind) (h .fetch))
-waits-rise (suc zero) i j older elder h o = omega arith
-waits-rise (suc (suc zero)) i j older elder h o = rw (o .kind, o .target, h .source1, h .source2) (omega arith)
-waits-rise (suc (suc (suc zero))) i j older elder h o = rw (o .kind, h .kind) (access-waits (older .kind) (isLoad (i .kind) or isStore (i .kind)) (h .access))
-waits-rise (suc (suc (suc (suc s)))) i j older elder h o = omega arith
+unfolding waits
+waits-rise s i j older elder h o =
+    more-rises _ _ (ap (λ (kind : Kind). rank (goal kind)) (o .kind)) (waiting-rises (stageAlong false s) i j older elder h o)
 
 blank-slower : SlowerInstruction blank blank
 blank-slower =

@@ -1,59 +1,24 @@
 -- When an instruction enters the stages after IF: of the older ones, the closed form needs only the one directly before (and its target, if it is a
 -- load) and the last store.
 use Prim.Native.Nat.{ℕ, zero, suc, _+_, _≤_, _<_, max}
-use mathlib.Core.Bool.{Bool, true, false, cond, false≢true}
-use mathlib.Core.Path.{_≡_, refl, sym, ap, subst, _∙_}
+use mathlib.Core.Bool.{true, false, cond}
+use mathlib.Core.Path.{_≡_, refl, sym, subst, _∙_}
 use native.Mathlib.Nat.{le-antisymm, max-le}
 use native.Mathlib.Omega.{arith}
 use Rattle.machine.specs.Test.{_and_}
-use Rattle.machine.specs.Instruction.{Kind, plain, load, store, branch, Instruction, Trace, instruction}
+use Rattle.machine.specs.Instruction.{Instruction, Trace, instruction}
 use Rattle.machine.specs.Rules.{IF, EX, MEM, isLoad, isStore, entry, reads, missesData}
 use Rattle.machine.proofs.Numbers.{Last, before, at, last}
-use Rattle.machine.proofs.Connectives.{Value, passed, failed, value}
+use Rattle.machine.proofs.Connectives.{Value, passed, failed, value, and-l, and-r, and-both}
 use Rattle.machine.proofs.Schedule.{Behaviour, shares, Together, early, late, together, shares-last, enters, done, own, share, wait, least}
-use Rattle.machine.proofs.Derivation.{waitsInID, waitsInEX, waits, countAt, last-count, behaviour}
+use Rattle.machine.proofs.Hazards.{load-goal, store-goal, waitsFor}
+use Rattle.machine.proofs.Derivation.{waits, waits-for, waits-within, countAt, last-count, behaviour}
 use Rattle.machine.proofs.Dominance.{previous, le-previous, previous-le, share-early, lastDone, last-done-le}
 use Rattle.machine.proofs.FetchTime.{loads, stores, load-done, store-done, done-pre}
-
--- what an instruction in ID and in EX waits for
-ID-within : (kind : Kind) (readsTarget : Bool) (d : ℕ → ℕ) (m : ℕ) → d 0 ≡ 1 →
-    1 ≤ m →
-    (isLoad kind ≡ true → readsTarget ≡ true → d 4 ≤ m) →
-    d (waitsInID kind readsTarget) ≤ m
-unfolding waitsInID
-ID-within plain r d m o p h = omega arith
-ID-within load true d m o p h = h refl refl
-ID-within load false d m o p h = omega arith
-ID-within store r d m o p h = omega arith
-ID-within branch r d m o p h = omega arith
-
-load-before : (kind : Kind) → isLoad kind ≡ true → waitsInID kind true ≡ 4
-unfolding waitsInID
-load-before plain e = absurd (false≢true e)
-load-before load e = refl
-load-before store e = absurd (false≢true e)
-load-before branch e = absurd (false≢true e)
 
 reads-zero : (i : Instruction) → reads i 0 ≡ false
 unfolding reads _and_
 reads-zero i = refl
-
-EX-within : (kind : Kind) (dataMisses : Bool) (d : ℕ → ℕ) (z : ℕ) → d 0 ≡ 1 →
-    (isStore kind ≡ true → d 5 ≤ z) →
-    d (waitsInEX kind dataMisses) ≤ max 1 (cond dataMisses z 0)
-unfolding waitsInEX
-EX-within plain m d z o h = omega arith
-EX-within load m d z o h = omega arith
-EX-within store true d z o h = let p = h refl in omega arith
-EX-within store false d z o h = omega arith
-EX-within branch m d z o h = omega arith
-
-store-before : (kind : Kind) → isStore kind ≡ true → waitsInEX kind true ≡ 5
-unfolding waitsInEX
-store-before plain e = absurd (false≢true e)
-store-before load e = absurd (false≢true e)
-store-before store e = refl
-store-before branch e = absurd (false≢true e)
 
 no-count-in-WB : (i : Instruction) → isStore (i .kind) ≡ false → countAt i 5 ≡ 0
 no-count-in-WB i e = last-count i (isStore (i .kind)) ∙ rw e
@@ -65,7 +30,7 @@ module _ (trace : Trace) where
   -- ID
   pub at-ID : (k : ℕ) →
       enters b k 2 ≡ max (enters b k 1 + entry (instruction trace k) IF + 1) (previous b k 3)
-  unfolding behaviour waits done
+  unfolding behaviour waits waitsFor done
   at-ID k =
       le-antisymm
       (least b k 1 _
@@ -96,7 +61,7 @@ module _ (trace : Trace) where
           rw g (rw r (omega arith))
 
   load-directly-before : (k : ℕ) → cond (reads (instruction trace k) (targetBefore k)) (loads trace k) 0 ≤ enters b k 3
-  unfolding targetBefore loads lastDone behaviour waits
+  unfolding targetBefore loads lastDone behaviour waitsFor
   load-directly-before zero = rw (reads-zero (instruction trace 0)) (omega arith)
   load-directly-before (suc k) = pick (value (isLoad (instruction trace k .kind))) (value (reads (instruction trace (suc k)) (instruction trace k .target)))
     where
@@ -106,7 +71,7 @@ module _ (trace : Trace) where
           rw e
           (rw f
           (subst (λ (x : ℕ). done b k x ≤ enters b (suc k) 3)
-          (ap (waitsInID (instruction trace k .kind)) f ∙ load-before (instruction trace k .kind) e)
+          (waits-for 2 (instruction trace (suc k)) (instruction trace k) (and-both _ _ e f) (load-goal (instruction trace k .kind) e))
           (wait b (suc k) k 2 (omega arith))))
       pick (passed e) (failed f) = rw e (rw f (omega arith))
       pick (failed e) r = rw e (rw (reads-zero (instruction trace (suc k))) (omega arith))
@@ -114,49 +79,54 @@ module _ (trace : Trace) where
   pub at-EX : (k : ℕ) →
       enters b k 3
       ≡ max (max (enters b k 2 + 1) (previous b k 4)) (cond (reads (instruction trace k) (targetBefore k)) (loads trace k) 0)
-  unfolding behaviour waits done entry
+  unfolding behaviour waitsFor done entry
   at-EX k =
       le-antisymm
       (least b k 2 _
       (omega arith)
       (λ j l e. let p = le-previous b k j 3 l (omega arith) (omega arith) in omega arith)
       (λ j l.
-      ID-within (instruction trace j .kind) (reads (instruction trace k) (instruction trace j .target)) (done b j) _ (done-pre b j) (omega arith)
-      (λ e f. let p = older-load k j l e f in omega arith)))
+      waits-within 2 (instruction trace k) (instruction trace j) (done b j) _ (let p = done-pre b j in omega arith)
+      (λ w.
+      rw (load-goal (instruction trace j .kind) (and-l _ _ w))
+      (let p = older-load k j l (and-l _ _ w) (and-r _ _ w) in omega arith))))
       (max-le
       (max-le (let p = own b k 2 in omega arith) (previous-le b k 3 (omega arith) (omega arith)))
       (load-directly-before k))
 
   -- MEM
   miss-waits : (k : ℕ) → Value (missesData (instruction trace k)) → cond (missesData (instruction trace k)) (stores trace k) 0 ≤ enters b k 4
-  unfolding stores behaviour waits
+  unfolding stores behaviour waitsFor
   miss-waits k (failed e) = rw e (omega arith)
   miss-waits k (passed e) =
       rw e
       (last-done-le b (λ j. isStore (instruction trace j .kind)) 5 k (enters b k 4)
       (λ j l f.
-      subst (λ (x : ℕ). done b j x ≤ enters b k 4) (ap (waitsInEX (instruction trace j .kind)) e ∙ store-before (instruction trace j .kind) f)
+      subst (λ (x : ℕ). done b j x ≤ enters b k 4)
+      (waits-for 3 (instruction trace k) (instruction trace j) (and-both _ _ f e) (store-goal (instruction trace j .kind) f))
       (wait b k j 3 l)))
 
   pub at-MEM : (k : ℕ) →
       enters b k 4
       ≡ max (max (enters b k 3 + entry (instruction trace k) EX + 1) (previous b k 5)) (cond (missesData (instruction trace k)) (stores trace k) 0)
-  unfolding behaviour waits done
+  unfolding behaviour waitsFor done
   at-MEM k =
       le-antisymm
       (least b k 3 _
       (omega arith)
       (λ j l e. let p = le-previous b k j 4 l (omega arith) (omega arith) in omega arith)
       (λ j l.
-      let p = EX-within (instruction trace j .kind) (missesData (instruction trace k)) (done b j) (stores trace k) (done-pre b j) (store-done trace k j l) in
-      omega arith))
+      waits-within 3 (instruction trace k) (instruction trace j) (done b j) _ (let p = done-pre b j in omega arith)
+      (λ w.
+      rw (store-goal (instruction trace j .kind) (and-l _ _ w), and-r _ _ w)
+      (let p = store-done trace k j l (and-l _ _ w) in omega arith))))
       (max-le
       (max-le (own b k 3) (previous-le b k 4 (omega arith) (omega arith)))
       (miss-waits k (value (missesData (instruction trace k)))))
 
   -- post: it is shared with nobody, and nothing is waited for
   pub at-post : (k : ℕ) → enters b k 6 ≡ done b k 5
-  unfolding behaviour waits done
+  unfolding behaviour waits waitsFor done
   at-post k =
       le-antisymm
       (least b k 5 _
@@ -198,7 +168,7 @@ module _ (trace : Trace) where
 
   pub at-last : (k : ℕ) →
       enters b k 5 ≡ max (enters b k 4 + entry (instruction trace k) MEM + 1) (cond (isStore (instruction trace k .kind)) (stores trace k) 0)
-  unfolding behaviour waits done
+  unfolding behaviour waits waitsFor done
   at-last k =
       le-antisymm
       (least b k 4 _

@@ -5,7 +5,7 @@ use Prim.Native.Nat.{ℕ, zero, suc, _+_, _-_, max}
 use mathlib.Core.Bool.{cond}
 use lib.Dec.{ltb}
 use Rattle.machine.specs.Instruction.{Instruction, Trace, instruction}
-use Rattle.machine.specs.Rules.{pre, IF, ID, EX, MEM, ST, WB, post, Place, isLoad, isStore, isBranch, hits, entry, reads, missesData}
+use Rattle.machine.specs.Rules.{pre, IF, ID, EX, MEM, ST, WB, post, Place, isLoad, isStore, holdsFetches, hits, entry, reads, missesData}
 
 -- Times are numbers of cycles from the start; 0 stands for none.
 pub record Window : Type 0 where
@@ -75,7 +75,7 @@ slide w i e =
       EX = e .EX;
       MEM = e .MEM;
       last = e .last;
-      branchDone = cond (isBranch (i .kind)) (e .EX + entry i EX + 1) (w .branchDone);
+      branchDone = cond (holdsFetches (i .kind)) (e .EX + entry i EX + 1) (w .branchDone);
       loadDone = cond (isLoad (i .kind)) (e .MEM + entry i MEM + 1) (w .loadDone);
       storeDone = cond (isStore (i .kind)) (e .post) (w .storeDone);
       loadTarget = cond (isLoad (i .kind)) (i .target) 0;

@@ -1,6 +1,6 @@
 -- "Charts worked by hand": A to L as data, and the test that each has the finishing times that document 01 gives.
 use Prim.Native.Nat.{ℕ, zero, suc}
-use mathlib.Core.Bool.{Bool, true, false}
+use mathlib.Core.Bool.{Bool, true}
 use mathlib.Core.List.{List, [], _∷_, _++_}
 use lib.Dec.{eqb}
 use Rattle.machine.specs.Test.{_and_}

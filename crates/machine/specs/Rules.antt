@@ -1,5 +1,5 @@
 -- The cycle rules: document 01, "One cycle", sentence by sentence. Every test is made on the state before the cycle.
-use Prim.Native.Nat.{ℕ, zero, suc, _+_, _-_, _*_}
+use Prim.Native.Nat.{ℕ, zero, suc, _+_, _-_}
 use mathlib.Core.Bool.{Bool, true, false, not, cond}
 use lib.Dec.{ltb, eqb}
 use lib.ListN.{length}
@@ -69,7 +69,7 @@ further a b = ltb (rank (b .stage)) (rank (a .stage)) or (same (a .stage) (b .st
 unfoldable pub shortOf : Place → Stage → ℕ → Bool
 shortOf a s c = further (record { stage = s; count = c }) a
 
--- Tests of a kind, and of a flag.
+-- Tests of a kind, and of a flag. Of the kinds, a branch holds back the fetches of later instructions.
 abbrev pub isLoad : Kind → Bool
 isLoad plain = false
 isLoad load = true
@@ -82,11 +82,11 @@ isStore load = false
 isStore store = true
 isStore branch = false
 
-abbrev pub isBranch : Kind → Bool
-isBranch plain = false
-isBranch load = false
-isBranch store = false
-isBranch branch = true
+abbrev pub holdsFetches : Kind → Bool
+holdsFetches plain = false
+holdsFetches load = false
+holdsFetches store = false
+holdsFetches branch = true
 
 abbrev pub hits : Flag → Bool
 hits hit = true
@@ -119,7 +119,7 @@ noOlder trace places i test = none (λ j. test (instruction trace j) (places j))
 readyInPre : Trace → Places → ℕ → Bool
 readyInPre trace places i =
     noOlder trace places i (λ j p. same (p .stage) pre)
-    and noOlder trace places i (λ j p. isBranch (j .kind) and shortOf p EX 0)
+    and noOlder trace places i (λ j p. holdsFetches (j .kind) and shortOf p EX 0)
     and (hits (instruction trace i .fetch)
     or (noOlder trace places i (λ j p. isLoad (j .kind) and shortOf p MEM 0)
     and noOlder trace places i (λ j p. isStore (j .kind) and shortOf p ST 0)))

@@ -6,7 +6,7 @@ use mathlib.Core.Path.{_≡_}
 use lib.Dec.{ltb, leb, eqb}
 use lib.ListN.{length}
 use Rattle.machine.specs.Test.{_and_, _or_}
-use Rattle.machine.specs.Instruction.{Instruction, Trace, instruction}
+use Rattle.machine.specs.Instruction.{Trace, instruction}
 use Rattle.machine.specs.Rules.{Stage, pre, IF, ID, EX, MEM, ST, WB, post, same, Place, Places, isStore, entry}
 use Rattle.machine.specs.declared.Slot.{Slot}
 use Rattle.machine.specs.declared.State.{State}

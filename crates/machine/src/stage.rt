@@ -1,5 +1,5 @@
-// The stages as numbers, in the order in which an instruction passes them; ST and WB are each the
-// last of some kinds.
+// The stages as numbers, in the order in which an instruction passes them: ST is a store's last
+// stage, WB that of any other kind.
 pub const PRE: u32 = 0;
 
 pub const IF: u32 = 1;

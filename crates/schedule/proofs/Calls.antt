@@ -2,7 +2,7 @@
 use Prim.Native.Nat.{ℕ, _+_, max}
 use mathlib.Core.Bool.{Bool, cond}
 use mathlib.Core.Path.{_≡_}
-use Rattle.machine.specs.Rules.{MEM, isLoad, isStore, isBranch, entry}
+use Rattle.machine.specs.Rules.{MEM, isLoad, isStore, holdsFetches, entry}
 use Rattle.machine.proofs.Window as Theory
 use Rattle.record.specs.declared.layout.Fields.{Fields}
 use Rattle.record.specs.Rules.{instructionOf}
@@ -16,7 +16,7 @@ use Rattle.schedule.specs.declared.sliding.Times.{Times}
 pub slid
     : (f : Fields) (w : Window) (e : Times) {branchDone loadDone storeDone loadTarget finish count : ℕ} {load branch store : Bool} →
     load ≡ isLoad (instructionOf f .kind) →
-    branch ≡ isBranch (instructionOf f .kind) →
+    branch ≡ holdsFetches (instructionOf f .kind) →
     branchDone ≡ cond branch (e .EX + (f .execution + 1)) (w .«branch_done») →
     count ≡ entry (instructionOf f) MEM →
     loadDone ≡ cond load (e .MEM + (count + 1)) (w .«load_done») →

@@ -1,5 +1,5 @@
 -- Who could move: where no instruction waits for another, none is held back.
-use Prim.Native.Nat.{ℕ, zero, suc}
+use Prim.Native.Nat.{ℕ}
 use mathlib.Core.Bool.{Bool, true, false, not, _||_}
 use mathlib.Core.Path.{_≡_, refl, sym, ap, _∙_}
 use lib.Dec.{ltb}
@@ -9,8 +9,8 @@ use Rattle.machine.specs.Rules.{Stage, IF, ID, EX, MEM, ST, WB}
 use Rattle.machine.specs.declared.Slot.{Slot}
 use Rattle.machine.specs.declared.State.{State}
 use Rattle.machine.proofs.Connectives.{Value, passed, failed, value, and-failed-l, and-failed-r, and-true, or-failed}
-use Rattle.machine.proofs.Stages.{stageAt}
-use Rattle.machine.proofs.BySlots.{pending, waitsFor, holdsBack, heldBack}
+use Rattle.machine.proofs.BySlots.{holdsBack, heldBack}
+use Rattle.machine.proofs.Hazards.{pending, waitsFor}
 use Rattle.record.specs.declared.layout.Fields.{Fields}
 use Rattle.record.specs.Rules.{instructionOf}
 use Rattle.starting.specs.Starts.{pendingSlot}

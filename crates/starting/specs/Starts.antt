@@ -7,7 +7,8 @@ use Rattle.machine.specs.Rules.{Stage, pre, IF, ID, EX, MEM, ST, WB, post}
 use Rattle.machine.specs.State.{slot}
 use Rattle.machine.specs.declared.Slot.{Slot}
 use Rattle.machine.specs.declared.State.{State}
-use Rattle.machine.proofs.BySlots.{pending, goes}
+use Rattle.machine.proofs.BySlots.{goes}
+use Rattle.machine.proofs.Hazards.{pending}
 
 -- the stage's slot holds an instruction that others may have to wait for
 abbrev pub pendingSlot : Trace → Stage → Slot → Bool

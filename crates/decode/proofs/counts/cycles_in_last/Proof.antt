@@ -1,17 +1,20 @@
 -- `cycles_in_last` meets its contract: a store's latency is at least 1.
-use Rattle.decode.proofs.Entries.{last-cycles}
 use borrow.Author.Needs.{needs}
+use Rattle.decode.proofs.Entries.{last-cycles}
 use Rattle.decode.proofs.counts.cycles_in_last.Statement.{statement}
 use Rattle.decode.proofs.counts.cycles_in_last.Tie as tie
 
 is-store-requires : tie.Need-is-store-requires
 is-store-requires c κs = search needs
 
+access-misses-requires : tie.Need-access-misses-requires
+access-misses-requires c κs = search needs
+
 choose-requires : tie.Need-choose-requires
 choose-requires c κs = search needs
 
 returns : tie.Need-returns
-returns c = last-cycles _ (c .before .before .before .pre) (c .before .before .is-store .ensures) (c .choose .ensures)
+returns c = last-cycles _ (c .before .before .before .pre) (c .before .before .is-store .ensures) (c .before .access-misses .ensures) (c .choose .ensures)
 
 pub cycles-in-last-spec : {M : Type 1} → statement M
-cycles-in-last-spec = tie.close (tie.spec is-store-requires choose-requires returns)
+cycles-in-last-spec = tie.close (tie.spec is-store-requires access-misses-requires choose-requires returns)

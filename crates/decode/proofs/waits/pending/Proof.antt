@@ -15,7 +15,7 @@ returns c =
     let a = c .before .args in
     either-of refl (both-of refl refl)
     ∙ ap (λ (to : ℕ). shortLevel to (a .level) (a .count)) (c .goal .ensures)
-    ∙ sym (pending-level _ (a .level) (a .count) (omega arith) (omega arith))
+    ∙ sym (pending-level (a .level) (a .count) (omega arith) (omega arith) _)
 
 pub pending-spec : {M : Type 1} → statement M
 pending-spec = tie.close (tie.spec goal-requires returns)

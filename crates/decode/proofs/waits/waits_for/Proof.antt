@@ -1,10 +1,10 @@
 -- `waits_for` meets its contract: pre, ID and EX by their rules; elsewhere nothing waits.
 use mathlib.Core.Bool.{not}
 use mathlib.Core.Path.{sym, ap}
-use Rattle.machine.proofs.BySlots.{waitsFor}
+use Rattle.machine.proofs.Hazards.{waitsFor}
 use Rattle.record.specs.Rules.{instructionOf}
 use Rattle.decode.proofs.Joined.{both-of, either-of}
-use Rattle.decode.proofs.Goals.{waits-elsewhere}
+use Rattle.decode.proofs.Elsewhere.{waits-elsewhere}
 use Rattle.decode.proofs.waits.waits_for.Statement.{statement}
 use Rattle.decode.proofs.waits.waits_for.Tie as tie
 
