@@ -2,7 +2,7 @@
 use Prim.Native.Nat.{ℕ, _+_, _≤_}
 use mathlib.Core.Bool.{true, false}
 use mathlib.Core.List.{List, [], _∷_, _++_, append-assoc}
-use mathlib.Core.Path.{_≡_, sym, ap}
+use mathlib.Core.Path.{_≡_, sym, ap, _∙_}
 use native.Mathlib.Omega.{arith}
 use lib.ListN.{length, length-append}
 use Rattle.machine.specs.declared.Slot.{Slot}
@@ -37,6 +37,9 @@ both {m} {n} {a} {b} h k =
     let second = k .within in
     record { within = omega arith }
 
+pub labelled-short : (label : List ℕ) (n : ℕ) → length (label ++ decimal n) ≤ length label + 10
+labelled-short label n = let e = length-append label (decimal n) in let d = decimal-short n in omega arith
+
 slot-by : (s : Slot) → Value (s .filled) → Short 22 (slotText s)
 slot-by s (passed e) = rw (slot-filled s e) (both (both (both (one 32) (number (s .index))) (one 58)) (number (s .count)))
 slot-by s (failed e) = rw (slot-empty s e) (record { within = omega arith })
@@ -44,19 +47,50 @@ slot-by s (failed e) = rw (slot-empty s e) (record { within = omega arith })
 slot-is-short : (s : Slot) → Short 22 (slotText s)
 slot-is-short s = slot-by s (value (s .filled))
 
+slots-are-short : (a b c : Slot) → Short 66 (slotText a ++ slotText b ++ slotText c)
+slots-are-short a b c = both (both (slot-is-short a) (slot-is-short b)) (slot-is-short c)
+
 pub slot-short : (s : Slot) → length (slotText s) ≤ 22
 slot-short s = slot-is-short s .within
 
-pub row-is-short : (n : ℕ) (s : State) → Short 143 (rowText n s)
+pub slots-short : (a b c : Slot) → length (slotText a ++ slotText b ++ slotText c) ≤ 66
+slots-short a b c = slots-are-short a b c .within
+
+-- a row, whose slots are put three at a time
+three : (a b c d : List ℕ) → a ++ (b ++ c ++ d) ≡ a ++ b ++ c ++ d
+three a b c d = sym (append-assoc a (b ++ c) d) ∙ ap (λ (t : List ℕ). t ++ d) (sym (append-assoc a b c))
+
+pub row-joined
+    : (n : ℕ) (s : State) →
+    decimal n ++ (slotText (s .IF) ++ slotText (s .ID) ++ slotText (s .EX)) ++ (slotText (s .MEM) ++ slotText (s .ST) ++ slotText (s .WB)) ++ (10 ∷ [])
+    ≡ rowText n s
 unfolding rowText
+row-joined n s =
+    let slots = decimal n ++ (slotText (s .IF) ++ slotText (s .ID) ++ slotText (s .EX)) in
+    ap (λ (t : List ℕ). t ++ (10 ∷ []))
+    (three slots (slotText (s .MEM)) (slotText (s .ST)) (slotText (s .WB))
+    ∙ ap (λ (t : List ℕ). t ++ slotText (s .MEM) ++ slotText (s .ST) ++ slotText (s .WB))
+    (three (decimal n) (slotText (s .IF)) (slotText (s .ID)) (slotText (s .EX))))
+
+pub row-is-short : (n : ℕ) (s : State) → Short 143 (rowText n s)
 row-is-short n s =
-    let cycle = number n in
-    let toIF = both cycle (slot-is-short (s .IF)) in
-    let toID = both toIF (slot-is-short (s .ID)) in
-    let toEX = both toID (slot-is-short (s .EX)) in
-    let toMEM = both toEX (slot-is-short (s .MEM)) in
-    let toST = both toMEM (slot-is-short (s .ST)) in
-    both (both toST (slot-is-short (s .WB))) (one 10)
+    rw (sym (row-joined n s))
+    (both
+    (both (both (number n) (slots-are-short (s .IF) (s .ID) (s .EX))) (slots-are-short (s .MEM) (s .ST) (s .WB)))
+    (one 10))
+
+-- the last line, whose numbers are put each with its label
+pub times-joined
+    : (latest earliest : ℕ) →
+    (119 ∷ 111 ∷ 114 ∷ 115 ∷ 116 ∷ 32 ∷ [])
+    ++ decimal latest
+    ++ ((32 ∷ 98 ∷ 101 ∷ 115 ∷ 116 ∷ 32 ∷ []) ++ decimal earliest)
+    ++ (10 ∷ [])
+    ≡ timesText latest earliest
+unfolding timesText
+times-joined latest earliest =
+    let worst = (119 ∷ 111 ∷ 114 ∷ 115 ∷ 116 ∷ 32 ∷ []) ++ decimal latest in
+    ap (λ (t : List ℕ). t ++ (10 ∷ [])) (sym (append-assoc worst (32 ∷ 98 ∷ 101 ∷ 115 ∷ 116 ∷ 32 ∷ []) (decimal earliest)))
 
 six : (a b c d e f : ℕ) → Short 6 (a ∷ b ∷ c ∷ d ∷ e ∷ f ∷ [])
 six a b c d e f = record { within = omega arith }

@@ -12,6 +12,18 @@ dash = 45
 abbrev colon : ℕ
 colon = 58
 
+-- `cycle IF ID EX MEM ST WB`, "the header line shown below"
+abbrev pub headerText : List ℕ
+headerText =
+    99 ∷ 121 ∷ 99 ∷ 108 ∷ 101
+    ∷ space ∷ 73 ∷ 70
+    ∷ space ∷ 73 ∷ 68
+    ∷ space ∷ 69 ∷ 88
+    ∷ space ∷ 77 ∷ 69 ∷ 77
+    ∷ space ∷ 83 ∷ 84
+    ∷ space ∷ 87 ∷ 66
+    ∷ newline ∷ []
+
 -- "fields one space apart", "the slots as index:count or a dash": a slot with the space before it
 unfoldable pub slotText : Slot → List ℕ
 slotText s = space ∷ cond (s .filled) (decimal (s .index) ++ (colon ∷ decimal (s .count))) (dash ∷ [])

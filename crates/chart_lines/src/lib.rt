@@ -3,5 +3,6 @@
 pub mod lines;
 
 pub use lines::draw_refusal;
+pub use lines::put_header;
 pub use lines::put_row;
 pub use lines::put_times;

@@ -1,9 +1,11 @@
-// One line of a chart: a row, which is the cycle, then the slots as index:count or a dash; the last
-// line, which has worst and best; and the line that gives a refusal.
+// One line of a chart: the header; a row, which is the cycle, then the slots as index:count or a
+// dash; the last line, which has worst and best; and the line that gives a refusal.
 ghost use Prim.Native.Nat.{_+_, _≤_};
+ghost use mathlib.Core.List.{_++_};
 ghost use lib.ListN.{length};
-ghost use Rattle.text.specs.Text.{Wrote};
+ghost use Rattle.text.specs.Text.{decimal, Wrote};
 ghost use Rattle.chart_lines.specs.Lines.{
+  headerText,
   slotText,
   rowText,
   timesText,
@@ -14,6 +16,13 @@ use machine::State;
 use text::put_byte;
 use text::put_decimal;
 use text::put_text;
+
+pub fn put_header(out: &mut [u8]) -> usize
+    requires { ⌜ 25 ≤ length (now out) ⌝ }
+    ensures { λ r. ⌜ Wrote 0 headerText (now (out .entry)) (now (out .exit)) r ⌝ }
+{
+    put_text(out, 0, b"cycle IF ID EX MEM ST WB\n")
+}
 
 fn put_slot(out: &mut [u8], at: usize, s: Slot) -> usize
     requires { ⌜ at + 22 ≤ length (now out) ⌝ }
@@ -28,28 +37,39 @@ fn put_slot(out: &mut [u8], at: usize, s: Slot) -> usize
     put_byte(out, next, b'-')
 }
 
+fn put_slots(out: &mut [u8], at: usize, first: Slot, second: Slot, third: Slot) -> usize
+    requires { ⌜ at + 66 ≤ length (now out) ⌝ }
+    ensures { λ r. ⌜ Wrote at (slotText first ++ slotText second ++ slotText third) (now (out .entry)) (now (out .exit)) r ⌝ }
+{
+    let next = put_slot(out, at, first);
+    let last = put_slot(out, next, second);
+    put_slot(out, last, third)
+}
+
 pub fn put_row(out: &mut [u8], at: usize, cycle: u32, s: State) -> usize
     requires { ⌜ at + 143 ≤ length (now out) ⌝ }
     ensures { λ r. ⌜ Wrote at (rowText cycle s) (now (out .entry)) (now (out .exit)) r ⌝ }
 {
-    let in_if = put_decimal(out, at, cycle);
-    let in_id = put_slot(out, in_if, s.IF);
-    let in_ex = put_slot(out, in_id, s.ID);
-    let in_mem = put_slot(out, in_ex, s.EX);
-    let in_st = put_slot(out, in_mem, s.MEM);
-    let in_wb = put_slot(out, in_st, s.ST);
-    let end = put_slot(out, in_wb, s.WB);
+    let slots = put_decimal(out, at, cycle);
+    let rest = put_slots(out, slots, s.IF, s.ID, s.EX);
+    let end = put_slots(out, rest, s.MEM, s.ST, s.WB);
     put_byte(out, end, b'\n')
+}
+
+fn put_labelled(out: &mut [u8], at: usize, label: &[u8], number: u32) -> usize
+    requires { ⌜ at + length (now label) + 10 ≤ length (now out) ⌝ }
+    ensures { λ r. ⌜ Wrote at (now (label .entry) ++ decimal number) (now (out .entry)) (now (out .exit)) r ⌝ }
+{
+    let digits = put_text(out, at, label);
+    put_decimal(out, digits, number)
 }
 
 pub fn put_times(out: &mut [u8], at: usize, worst: u32, best: u32) -> usize
     requires { ⌜ at + 33 ≤ length (now out) ⌝ }
     ensures { λ r. ⌜ Wrote at (timesText worst best) (now (out .entry)) (now (out .exit)) r ⌝ }
 {
-    let latest = put_text(out, at, b"worst ");
-    let between = put_decimal(out, latest, worst);
-    let earliest = put_text(out, between, b" best ");
-    let end = put_decimal(out, earliest, best);
+    let between = put_labelled(out, at, b"worst ", worst);
+    let end = put_labelled(out, between, b" best ", best);
     put_byte(out, end, b'\n')
 }
 
@@ -57,7 +77,6 @@ pub fn draw_refusal(out: &mut [u8], number: u32) -> usize
     requires { ⌜ 19 ≤ length (now out) ⌝ }
     ensures { λ r. ⌜ Wrote 0 (refusalText number) (now (out .entry)) (now (out .exit)) r ⌝ }
 {
-    let at = put_text(out, 0, b"refused ");
-    let end = put_decimal(out, at, number);
+    let end = put_labelled(out, 0, b"refused ", number);
     put_byte(out, end, b'\n')
 }

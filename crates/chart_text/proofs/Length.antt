@@ -7,7 +7,8 @@ use Rattle.machine.specs.Time.{settle, best, worst}
 use Rattle.chart_lines.proofs.Lengths.{Short, both, times-is-short}
 use Rattle.chart_rows.specs.Rows.{rowsText}
 use Rattle.chart_rows.proofs.Length.{rows-short}
-use Rattle.chart_text.specs.Chart.{headerText, chartOf, longest}
+use Rattle.chart_lines.specs.Lines.{headerText}
+use Rattle.chart_text.specs.Chart.{chartOf, longest}
 
 pub chart-short : (trace : Trace) → length (chartOf trace) ≤ longest
 unfolding chartOf

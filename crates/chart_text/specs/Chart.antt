@@ -1,28 +1,16 @@
 -- The chart program's text: document 01, "Charts worked by hand".
 use Prim.Native.Nat.{ℕ, suc, min}
 use mathlib.Core.Bool.{cond}
-use mathlib.Core.List.{List, [], _∷_, _++_}
+use mathlib.Core.List.{List, _++_}
 use lib.Dec.{eqb, leb}
 use lib.ListN.{length}
 use Rattle.machine.specs.Instruction.{Trace, miss}
 use Rattle.machine.specs.Time.{settle, best, worst}
 use Rattle.record.specs.Body.{traceOf}
 use Rattle.job.specs.Open.{openRefusal, openBody}
-use Rattle.text.specs.Text.{space, newline, put}
-use Rattle.chart_lines.specs.Lines.{timesText, refusalText}
+use Rattle.text.specs.Text.{put}
+use Rattle.chart_lines.specs.Lines.{headerText, timesText, refusalText}
 use Rattle.chart_rows.specs.Rows.{rowsText}
-
--- `cycle IF ID EX MEM ST WB`, "the header line shown below"
-abbrev pub headerText : List ℕ
-headerText =
-    99 ∷ 121 ∷ 99 ∷ 108 ∷ 101
-    ∷ space ∷ 73 ∷ 70
-    ∷ space ∷ 73 ∷ 68
-    ∷ space ∷ 69 ∷ 88
-    ∷ space ∷ 77 ∷ 69 ∷ 77
-    ∷ space ∷ 83 ∷ 84
-    ∷ space ∷ 87 ∷ 66
-    ∷ newline ∷ []
 
 -- "the chart of trace 0 with unknowns as misses: the header line shown below, then rows 0 to the smaller of finishing time and 1,000"
 unfoldable pub chartOf : Trace → List ℕ

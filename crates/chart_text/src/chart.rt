@@ -11,11 +11,11 @@ ghost use Rattle.chart_text.specs.Chart.{
   chartOutput,
 };
 use chart_lines::draw_refusal;
+use chart_lines::put_header;
 use chart_lines::put_times;
 use chart_rows::put_rows;
 use job::cut;
 use job::locate;
-use text::put_text;
 use timing::best_worst;
 
 // Room for any chart: the header, 1,001 rows and the last line, each number taken as ten digits.
@@ -34,7 +34,7 @@ fn draw_body(body: &[u8], out: &mut [u8]) -> usize
     ensures { λ r. ⌜ Wrote 0 (chartOf (traceOf (now (body .entry)))) (now (out .entry)) (now (out .exit)) r ⌝ }
 {
     let times = best_worst(body);
-    let first = put_text(out, 0, b"cycle IF ID EX MEM ST WB\n");
+    let first = put_header(out);
     let end = put_rows(body, out, first, smaller(times.worst, LAST_ROW));
     put_times(out, end, times.worst, times.best)
 }

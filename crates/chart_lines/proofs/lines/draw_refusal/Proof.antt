@@ -1,42 +1,43 @@
--- `chart_lines::lines::draw_refusal` meets its contract.
+-- `draw_refusal` meets its contract.
 use native.Mathlib.Omega.{arith}
-use Rattle.chart_lines.specs.Lines.{refusalText}
-use Rattle.text.proofs.Pieces.{wrote-then, decimal-short}
+use mathlib.Core.List.{List, [], _∷_}
+use Prim.Native.Nat.{ℕ}
 use borrow.Author.Needs.{needs}
+use Rattle.text.proofs.Pieces.{wrote-then}
+use Rattle.chart_lines.specs.Lines.{refusalText}
+use Rattle.chart_lines.proofs.Lengths.{labelled-short}
 use Rattle.chart_lines.proofs.lines.draw_refusal.Statement.{statement}
 use Rattle.chart_lines.proofs.lines.draw_refusal.Tie as tie
-use Rattle.chart_lines.proofs.lines.draw_refusal.Reads as reads
-use Rattle.chart_lines.proofs.lines.draw_refusal.Lts as lts
-use Rattle.text.proofs.put_byte.Reads as put-byte-reads
-use Rattle.text.proofs.put_decimal.Reads as put-decimal-reads
-use Rattle.text.proofs.put_text.Reads as put-text-reads
 
-slice-aggregate-put-text : tie.Need-slice-aggregate-put-text
-slice-aggregate-put-text c = search needs
+slice-aggregate-put-labelled : tie.Need-slice-aggregate-put-labelled
+slice-aggregate-put-labelled c = search needs
 
-put-text-requires : tie.Need-put-text-requires
-put-text-requires c κs = search needs
-
-put-decimal-requires : tie.Need-put-decimal-requires
-put-decimal-requires c κs = omega (arith, c .before .before .before .before .before .before .before .pre, c .before .before .before .put-text .ensures .0, c .before .before .before .put-text .kept .0, decimal-short (c .before .before .before .before .before .before .before .args .number))
+put-labelled-requires : tie.Need-put-labelled-requires
+put-labelled-requires c κs = search needs
 
 put-byte-requires : tie.Need-put-byte-requires
-put-byte-requires c κs = omega (arith, c .before .before .before .before .before .before .before .before .before .before .before .pre, c .before .before .before .before .before .before .before .put-text .ensures .0, c .before .before .before .before .before .before .before .put-text .kept .0, c .before .before .before .put-decimal .ensures .0, c .before .before .before .put-decimal .kept .0, decimal-short (c .before .before .before .before .before .before .before .before .before .before .before .args .number))
+put-byte-requires c κs =
+    let line = c .before .before .before in
+    let entry = line .before .before .before .before in
+    let short = labelled-short (114 ∷ 101 ∷ 102 ∷ 117 ∷ 115 ∷ 101 ∷ 100 ∷ 32 ∷ []) (entry .args .number) in
+    omega (arith, entry .pre, line .put-labelled .ensures .0, line .put-labelled .kept .0)
 
 same-length : tie.Need-same-length
 same-length c = search needs
 
 returns : tie.Need-returns
 unfolding refusalText
-returns c = wrote-then _ _ _ _ (wrote-then _ _ _ _ (c .before .before .before .before .before .before .before .before .before .before .put-text .ensures) (c .before .before .before .before .before .before .put-decimal .ensures)) (c .before .before .put-byte .ensures)
+returns c =
+    let end = c .before .before in
+    let line = end .before .before .before .before in
+    wrote-then _ _ _ _ (line .put-labelled .ensures) (end .put-byte .ensures)
 
 pub draw-refusal-spec : {M : Type 1} → statement M
 draw-refusal-spec =
     tie.close
     (tie.spec
-    slice-aggregate-put-text
-    put-text-requires
-    put-decimal-requires
+    slice-aggregate-put-labelled
+    put-labelled-requires
     put-byte-requires
     same-length
     returns)

@@ -1,6 +1,6 @@
--- `chart_lines::lines::put_slot` meets its contract: a space, then index:count or a dash.
+-- `put_slot` meets its contract: a space, then index:count or a dash.
+use mathlib.Core.Path.{sym}
 use native.Mathlib.Omega.{arith}
-use mathlib.Core.Path.{sym, _∙_}
 use borrow.Author.Needs.{needs}
 use Rattle.text.proofs.Pieces.{wrote-then, as-text, decimal-short}
 use Rattle.chart_lines.proofs.Lengths.{slot-filled, slot-empty}
@@ -11,19 +11,42 @@ put-byte-requires : tie.Need-put-byte-requires
 put-byte-requires c κs = search needs
 
 put-decimal-requires : tie.Need-put-decimal-requires
-put-decimal-requires c κs = omega (arith, c .before .before .before .before .before .before .before .pre, c .before .before .before .before .put-byte .ensures .0, c .before .before .before .before .put-byte .kept .0, decimal-short (c .before .before .before .before .before .before .before .args .s .index))
+put-decimal-requires c κs =
+    let space = c .before .before .before .before in
+    let entry = space .before .before .before in
+    omega (arith, entry .pre, space .put-byte .ensures .0, space .put-byte .kept .0, decimal-short (entry .args .s .index))
 
 put-byte-requires-2 : tie.Need-put-byte-requires-2
-put-byte-requires-2 c κs = omega (arith, c .before .before .before .before .before .before .before .before .before .before .before .pre, c .before .before .before .before .before .before .before .before .put-byte .ensures .0, c .before .before .before .before .before .before .before .before .put-byte .kept .0, c .before .before .before .put-decimal .ensures .0, c .before .before .before .put-decimal .kept .0, decimal-short (c .before .before .before .before .before .before .before .before .before .before .before .args .s .index))
+put-byte-requires-2 c κs =
+    let index = c .before .before .before in
+    let space = index .before .before .before .before .before in
+    let entry = space .before .before .before in
+    omega
+    (arith, entry .pre, space .put-byte .ensures .0, space .put-byte .kept .0, index .put-decimal .ensures .0, index .put-decimal .kept .0, decimal-short (entry .args .s .index))
 
 put-decimal-requires-2 : tie.Need-put-decimal-requires-2
-put-decimal-requires-2 c κs = omega (arith, c .before .before .before .before .before .before .before .before .before .before .before .before .before .before .before .pre, c .before .before .before .before .before .before .before .before .before .before .before .before .put-byte .ensures .0, c .before .before .before .before .before .before .before .before .before .before .before .before .put-byte .kept .0, c .before .before .before .before .before .before .before .put-decimal .ensures .0, c .before .before .before .before .before .before .before .put-decimal .kept .0, c .before .before .before .put-byte2 .ensures .0, c .before .before .before .put-byte2 .kept .0, decimal-short (c .before .before .before .before .before .before .before .before .before .before .before .before .before .before .before .args .s .index), decimal-short (c .before .before .before .before .before .before .before .before .before .before .before .before .before .before .before .args .s .count))
+put-decimal-requires-2 c κs =
+    let colon = c .before .before .before in
+    let index = colon .before .before .before .before in
+    let space = index .before .before .before .before .before in
+    let entry = space .before .before .before in
+    omega
+    (arith, entry .pre, space .put-byte .ensures .0, space .put-byte .kept .0, index .put-decimal .ensures .0, index .put-decimal .kept .0, decimal-short (entry .args .s .index), colon .put-byte2 .ensures .0, colon .put-byte2 .kept .0, decimal-short (entry .args .s .count))
 
 same-length : tie.Need-same-length
-same-length c = c .before .before .put-decimal2 .kept .0 ∙ c .before .before .before .before .before .before .put-byte2 .kept .0 ∙ c .before .before .before .before .before .before .before .before .before .before .put-decimal .kept .0 ∙ c .before .before .before .before .before .before .before .before .before .before .before .before .before .before .before .put-byte .kept .0
+same-length c = search needs
 
 returns : tie.Need-returns
-returns c = as-text _ _ (sym (slot-filled _ (c .before .before .before .before .before .before .before .before .before .before .before .before .if1 .taken))) (wrote-then _ _ _ _ (wrote-then _ _ _ _ (wrote-then _ _ _ _ (c .before .before .before .before .before .before .before .before .before .before .before .before .before .before .before .put-byte .ensures) (c .before .before .before .before .before .before .before .before .before .before .put-decimal .ensures)) (c .before .before .before .before .before .before .put-byte2 .ensures)) (c .before .before .put-decimal2 .ensures))
+returns c =
+    let count = c .before .before in
+    let colon = count .before .before .before .before in
+    let index = colon .before .before .before .before in
+    let space = index .before .before .before .before .before in
+    as-text _ _
+    (sym (slot-filled _ (index .before .before .if1 .taken)))
+    (wrote-then _ _ _ _
+    (wrote-then _ _ _ _ (wrote-then _ _ _ _ (space .put-byte .ensures) (index .put-decimal .ensures)) (colon .put-byte2 .ensures))
+    (count .put-decimal2 .ensures))
 
 put-byte-requires-3 : tie.Need-put-byte-requires-3
 put-byte-requires-3 c κs = search needs
@@ -32,7 +55,10 @@ same-length-2 : tie.Need-same-length-2
 same-length-2 c = search needs
 
 returns-2 : tie.Need-returns-2
-returns-2 c = as-text _ _ (sym (slot-empty _ (c .before .before .before .before .if1 .left))) (wrote-then _ _ _ _ (c .before .before .before .before .before .before .before .put-byte .ensures) (c .before .before .put-byte3 .ensures))
+returns-2 c =
+    let dash = c .before .before in
+    let space = dash .before .before .before .before .before in
+    as-text _ _ (sym (slot-empty _ (dash .before .before .if1 .left))) (wrote-then _ _ _ _ (space .put-byte .ensures) (dash .put-byte3 .ensures))
 
 pub put-slot-spec : {M : Type 1} → statement M
 put-slot-spec =

@@ -1,55 +1,61 @@
--- `chart_lines::lines::put_times` meets its contract.
+-- `put_times` meets its contract.
+use mathlib.Core.List.{List, [], _∷_}
+use Prim.Native.Nat.{ℕ}
 use native.Mathlib.Omega.{arith}
-use mathlib.Core.Path.{_∙_}
-use Rattle.chart_lines.specs.Lines.{timesText}
-use Rattle.text.proofs.Pieces.{wrote-then, decimal-short}
 use borrow.Author.Needs.{needs}
+use Rattle.text.proofs.Pieces.{wrote-then, as-text}
+use Rattle.chart_lines.proofs.Lengths.{labelled-short, times-joined}
 use Rattle.chart_lines.proofs.lines.put_times.Statement.{statement}
 use Rattle.chart_lines.proofs.lines.put_times.Tie as tie
-use Rattle.chart_lines.proofs.lines.put_times.Reads as reads
-use Rattle.chart_lines.proofs.lines.put_times.Lts as lts
-use Rattle.text.proofs.put_byte.Reads as put-byte-reads
-use Rattle.text.proofs.put_decimal.Reads as put-decimal-reads
-use Rattle.text.proofs.put_text.Reads as put-text-reads
 
-slice-aggregate-put-text : tie.Need-slice-aggregate-put-text
-slice-aggregate-put-text c = search needs
+slice-aggregate-put-labelled : tie.Need-slice-aggregate-put-labelled
+slice-aggregate-put-labelled c = search needs
 
-put-text-requires : tie.Need-put-text-requires
-put-text-requires c κs = search needs
+put-labelled-requires : tie.Need-put-labelled-requires
+put-labelled-requires c κs = search needs
 
-put-decimal-requires : tie.Need-put-decimal-requires
-put-decimal-requires c κs = omega (arith, c .before .before .before .before .before .before .before .pre, c .before .before .before .put-text .ensures .0, c .before .before .before .put-text .kept .0, decimal-short (c .before .before .before .before .before .before .before .args .worst))
+slice-aggregate-put-labelled-2 : tie.Need-slice-aggregate-put-labelled-2
+slice-aggregate-put-labelled-2 c = search needs
 
-slice-aggregate-put-text-2 : tie.Need-slice-aggregate-put-text-2
-slice-aggregate-put-text-2 c = search needs
-
-put-text-requires-2 : tie.Need-put-text-requires-2
-put-text-requires-2 c κs = omega (arith, c .before .before .before .before .before .before .before .before .before .before .before .before .pre, c .before .before .before .before .before .before .before .before .put-text .ensures .0, c .before .before .before .before .before .before .before .before .put-text .kept .0, c .before .before .before .before .put-decimal .ensures .0, c .before .before .before .before .put-decimal .kept .0, decimal-short (c .before .before .before .before .before .before .before .before .before .before .before .before .args .worst))
-
-put-decimal-requires-2 : tie.Need-put-decimal-requires-2
-put-decimal-requires-2 c κs = omega (arith, c .before .before .before .before .before .before .before .before .before .before .before .before .before .before .before .before .pre, c .before .before .before .before .before .before .before .before .before .before .before .before .put-text .ensures .0, c .before .before .before .before .before .before .before .before .before .before .before .before .put-text .kept .0, c .before .before .before .before .before .before .before .before .put-decimal .ensures .0, c .before .before .before .before .before .before .before .before .put-decimal .kept .0, c .before .before .before .put-text2 .ensures .0, c .before .before .before .put-text2 .kept .0, decimal-short (c .before .before .before .before .before .before .before .before .before .before .before .before .before .before .before .before .args .worst), decimal-short (c .before .before .before .before .before .before .before .before .before .before .before .before .before .before .before .before .args .best))
+put-labelled-requires-2 : tie.Need-put-labelled-requires-2
+put-labelled-requires-2 c κs =
+    let latest = c .before .before .before .before in
+    let entry = latest .before .before .before .before in
+    let short = labelled-short (119 ∷ 111 ∷ 114 ∷ 115 ∷ 116 ∷ 32 ∷ []) (entry .args .worst) in
+    omega (arith, entry .pre, latest .put-labelled .ensures .0, latest .put-labelled .kept .0)
 
 put-byte-requires : tie.Need-put-byte-requires
-put-byte-requires c κs = omega (arith, c .before .before .before .before .before .before .before .before .before .before .before .before .before .before .before .before .before .before .before .before .pre, c .before .before .before .before .before .before .before .before .before .before .before .before .before .before .before .before .put-text .ensures .0, c .before .before .before .before .before .before .before .before .before .before .before .before .before .before .before .before .put-text .kept .0, c .before .before .before .before .before .before .before .before .before .before .before .before .put-decimal .ensures .0, c .before .before .before .before .before .before .before .before .before .before .before .before .put-decimal .kept .0, c .before .before .before .before .before .before .before .put-text2 .ensures .0, c .before .before .before .before .before .before .before .put-text2 .kept .0, c .before .before .before .put-decimal2 .ensures .0, c .before .before .before .put-decimal2 .kept .0, decimal-short (c .before .before .before .before .before .before .before .before .before .before .before .before .before .before .before .before .before .before .before .before .args .worst), decimal-short (c .before .before .before .before .before .before .before .before .before .before .before .before .before .before .before .before .before .before .before .before .args .best))
+put-byte-requires c κs =
+    let earliest = c .before .before .before in
+    let latest = earliest .before .before .before .before .before in
+    let entry = latest .before .before .before .before in
+    let short = labelled-short (119 ∷ 111 ∷ 114 ∷ 115 ∷ 116 ∷ 32 ∷ []) (entry .args .worst) in
+    let short-too = labelled-short (32 ∷ 98 ∷ 101 ∷ 115 ∷ 116 ∷ 32 ∷ []) (entry .args .best) in
+    omega
+    (arith, entry .pre, latest .put-labelled .ensures .0, latest .put-labelled .kept .0, earliest .put-labelled2 .ensures .0, earliest .put-labelled2 .kept .0)
 
 same-length : tie.Need-same-length
-same-length c = c .before .before .put-byte .kept .0 ∙ c .before .before .before .before .before .before .put-decimal2 .kept .0 ∙ c .before .before .before .before .before .before .before .before .before .before .put-text2 .kept .0 ∙ c .before .before .before .before .before .before .before .before .before .before .before .before .before .before .before .put-decimal .kept .0 ∙ c .before .before .before .before .before .before .before .before .before .before .before .before .before .before .before .before .before .before .before .put-text .kept .0
+same-length c = search needs
 
 returns : tie.Need-returns
-unfolding timesText
-returns c = wrote-then _ _ _ _ (wrote-then _ _ _ _ (wrote-then _ _ _ _ (wrote-then _ _ _ _ (c .before .before .before .before .before .before .before .before .before .before .before .before .before .before .before .before .before .before .before .put-text .ensures) (c .before .before .before .before .before .before .before .before .before .before .before .before .before .before .before .put-decimal .ensures)) (c .before .before .before .before .before .before .before .before .before .before .put-text2 .ensures)) (c .before .before .before .before .before .before .put-decimal2 .ensures)) (c .before .before .put-byte .ensures)
+returns c =
+    let end = c .before .before in
+    let earliest = end .before .before .before .before in
+    let latest = earliest .before .before .before .before .before in
+    as-text _ _
+    (times-joined _ _)
+    (wrote-then _ _ _ _
+    (wrote-then _ _ _ _ (latest .put-labelled .ensures) (earliest .put-labelled2 .ensures))
+    (end .put-byte .ensures))
 
 pub put-times-spec : {M : Type 1} → statement M
 put-times-spec =
     tie.close
     (tie.spec
-    slice-aggregate-put-text
-    put-text-requires
-    put-decimal-requires
-    slice-aggregate-put-text-2
-    put-text-requires-2
-    put-decimal-requires-2
+    slice-aggregate-put-labelled
+    put-labelled-requires
+    slice-aggregate-put-labelled-2
+    put-labelled-requires-2
     put-byte-requires
     same-length
     returns)

@@ -10,12 +10,6 @@ use Rattle.chart_text.proofs.Drawn.{short-output, drawn, chart-refused,
 use borrow.Author.Needs.{needs}
 use Rattle.chart_text.proofs.chart.draw.Statement.{statement}
 use Rattle.chart_text.proofs.chart.draw.Tie as tie
-use Rattle.chart_text.proofs.chart.draw.Reads as reads
-use Rattle.chart_text.proofs.chart.draw.Lts as lts
-use Rattle.chart_text.proofs.chart.draw_body.Reads as draw-body-reads
-use Rattle.chart_lines.proofs.draw_refusal.Reads as draw-refusal-reads
-use Rattle.job.proofs.cut.Reads as cut-reads
-use Rattle.job.proofs.locate.Reads as locate-reads
 
 returns : tie.Need-returns
 returns c = short-output _ _ (c .if1 .taken)
@@ -30,19 +24,40 @@ same-length : tie.Need-same-length
 same-length c = search needs
 
 returns-2 : tie.Need-returns-2
-returns-2 c = let file = c .before .before .before .before .before .before .before .before .before .before .args .file .now in let e = located file 0 _ (c .before .before .before .before .before .before .locate .ensures) .0 in drawn _ _ (c .before .before .before .before .before .before .before .if1 .left) (ap refusalText e ∙ sym (chart-refused file (λ z. c .before .before .before .before .if2 .taken (e ∙ z)))) (c .before .before .draw-refusal .ensures)
+returns-2 c =
+    let test = c .before .before .before .before in
+    let found = test .before .before in
+    let room = found .before in
+    let file = room .before .before .before .args .file .now in
+    let e = located file 0 _ (found .locate .ensures) .0 in
+    drawn _ _ (room .if1 .left) (ap refusalText e ∙ sym (chart-refused file (λ z. test .if2 .taken (e ∙ z)))) (c .before .before .draw-refusal .ensures)
 
 cut-requires : tie.Need-cut-requires
 cut-requires c κs = search needs
 
 draw-body-requires : tie.Need-draw-body-requires
-draw-body-requires c κs = let file = c .before .before .before .before .before .before .before .before .args .file .now in let at = located file 0 _ (c .before .before .before .before .locate .ensures) in (ap bodyRefusal (c .before .cut .ensures .0 ∙ at .1) ∙ opened-accepted file 0 (sym (at .0) ∙ c .before .before .if2 .left), c .before .before .before .before .before .if1 .left)
+draw-body-requires c κs =
+    let part = c .before in
+    let test = part .before in
+    let found = test .before .before in
+    let room = found .before in
+    let file = room .before .before .before .args .file .now in
+    let at = located file 0 _ (found .locate .ensures) in
+    (ap bodyRefusal (part .cut .ensures .0 ∙ at .1) ∙ opened-accepted file 0 (sym (at .0) ∙ test .if2 .left), room .if1 .left)
 
 same-length-2 : tie.Need-same-length-2
 same-length-2 c = search needs
 
 returns-3 : tie.Need-returns-3
-returns-3 c = let file = c .before .before .before .before .before .before .before .before .before .before .before .args .file .now in let at = located file 0 _ (c .before .before .before .before .before .before .before .locate .ensures) in drawn _ _ (c .before .before .before .before .before .before .before .before .if1 .left) (ap (λ (body : List ℕ). chartOf (traceOf body)) (c .before .before .before .before .cut .ensures .0 ∙ at .1) ∙ sym (chart-given file (sym (at .0) ∙ c .before .before .before .before .before .if2 .left))) (c .before .before .draw-body .ensures)
+returns-3 c =
+    let part = c .before .before .before .before in
+    let test = part .before in
+    let found = test .before .before in
+    let room = found .before in
+    let file = room .before .before .before .args .file .now in
+    let at = located file 0 _ (found .locate .ensures) in
+    let body = ap (λ (body : List ℕ). chartOf (traceOf body)) (part .cut .ensures .0 ∙ at .1) in
+    drawn _ _ (room .if1 .left) (body ∙ sym (chart-given file (sym (at .0) ∙ test .if2 .left))) (c .before .before .draw-body .ensures)
 
 pub draw-spec : {M : Type 1} → statement M
 draw-spec =
