@@ -1,9 +1,9 @@
 // For programs that run Open and hold no struct with a part in it; no call of the engine's.
 ghost use mathlib.Core.Path.{_≡_};
 ghost use Rattle.record.specs.Part.{StartsAt};
 ghost use Rattle.job.specs.Layout.{startAt};
 ghost use Rattle.job.specs.Open.{openRefusal, openBody};
-use crate::opening::open;
+use crate::open;
 
 // The part that Open hands back, without its refusal number.
 pub fn open_body<'a>(file: &'a [u8], trace: u32) -> &'a [u8]

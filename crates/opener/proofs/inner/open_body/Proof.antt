@@ -41,19 +41,19 @@ use denote.Triple.Walked.{says, Stays, stay-none, stay-none-slice, walkOf, goes-
 use denote.Exit.{yes}
 use denote.Triple.Clauses.{ensured, lasts}
 use Rattle.record.specs.Part.{StartsAt}
 use Rattle.job.specs.Layout.{startAt}
 use Rattle.job.specs.Open.{openRefusal, openBody}
-use Rattle.job.specs.declared.opening.Opened.{Opened}
-use Rattle.job.proofs.opening.Opened as T
-use Rattle.job.proofs.opening.Opened.Laws as T′
-use Rattle.job.proofs.opening.open as opening
-use Rattle.job.proofs.opening.open.Symbol as open-def
-use Rattle.job.proofs.opening.open.Symbol.{name as #job·opening·open}
-use Rattle.job.proofs.opening.open.Met as open-thm
-use Rattle.job.proofs.inner.open_body.Key.{name as #job·inner·open-body}
-use Rattle.job.proofs.inner.open_body as body
-use Rattle.job.proofs.inner.open_body.Statement as stated
-use Rattle.job.proofs.inner.open_body.Code as code
+use Rattle.opener.specs.declared.Opened.{Opened}
+use Rattle.opener.proofs.Opened as T
+use Rattle.opener.proofs.Opened.Laws as T′
+use Rattle.opener.proofs.open as opening
+use Rattle.opener.proofs.open.Symbol as open-def
+use Rattle.opener.proofs.open.Symbol.{name as #opener·open}
+use Rattle.opener.proofs.open.Met as open-thm
+use Rattle.opener.proofs.inner.open_body.Key.{name as #opener·inner·open-body}
+use Rattle.opener.proofs.inner.open_body as body
+use Rattle.opener.proofs.inner.open_body.Statement as stated
+use Rattle.opener.proofs.inner.open_body.Code as code
 
 abbrev stayed : Stays (body.ended .signature .params) (body.ended .kept)
 stayed = (stay-none-slice (0 ∷ []) tt (plain (λ _. u8)) yes, (stay-none (λ _. u32) yes, tt))
@@ -124,7 +124,7 @@ module _ {M : Type 1} (𝓤 : URA M) (H : Heap 𝓤) (A : Atoms 𝓤) (W : Given
       -- [what the struct owns]: body's part is taken out of it
       use1 W (given (u ∷ [] ≡ T′.lowered r ∷ []) (‵ (all-own (D .parts) L (parts r)))) (own-open 𝓤 H A W D L (parts r) u) $ learn ! (λ _. use1 W (‵ (ownAt (D .parts) L 1 (r .body)) ⊛ ‵ (rest (D .parts) L 1 (parts r))) (own-out 𝓤 H A W (D .parts) L 1 (parts r)) $ split ! $ move ! (1 ∷ []) $ drop ! $ done !)
 
-  module _ (C : Calls 𝓤 H) (Λ : Loops 𝓤 H) (fm : FmC 𝓤 H (W .laws) C) (known : Triple 𝓤 (C #job·opening·open) (Open 𝓤 H A mem run)) where
+  module _ (C : Calls 𝓤 H) (Λ : Loops 𝓤 H) (fm : FmC 𝓤 H (W .laws) C) (known : Triple 𝓤 (C #opener·open) (Open 𝓤 H A mem run)) where
     walk : Is Slice s (v s ∷ []) → ent 𝓤 (onEntry 𝓤 H A body.signature (κ, tt) (q, tt) (s, (n, tt)) at) (WpFn 𝓤 H C Λ code.function (v s ∷ vint w32 n ∷ []) Post)
     walk p =
         qed W (raw (onEntry 𝓤 H A body.signature (κ, tt) (q, tt) (s, (n, tt)) at) ∷ []) ∵ enter ! C Λ code.function (v s ∷ vint w32 n ∷ []) _ $
@@ -144,13 +144,13 @@ module _ {M : Type 1} (𝓤 : URA M) (H : Heap 𝓤) (A : Atoms 𝓤) (W : Given
         move ! (9 ∷ 10 ∷ []) $ free1 ! $ move ! (7 ∷ 8 ∷ []) $ free1 ! $ move ! (5 ∷ 6 ∷ []) $ free1 ! $ move ! (3 ∷ 4 ∷ []) $ free1 ! $ free0 ! $ by ! (exits r u (e .1, e .2))))))))))
 
 module _ {M : Type 1} (𝓤 : URA M) (H : Heap 𝓤) (A : Atoms 𝓤) (W : Given 𝓤 H A) (mem : Memory → SProp 𝓤) (run : Routine → Fun 𝓤) where
-  open-body-walks : (C : Calls 𝓤 H) (Λ : Loops 𝓤 H) → FmC 𝓤 H (W .laws) C → Triple 𝓤 (C #job·opening·open) (Open 𝓤 H A mem run)
+  open-body-walks : (C : Calls 𝓤 H) (Λ : Loops 𝓤 H) → FmC 𝓤 H (W .laws) C → Triple 𝓤 (C #opener·open) (Open 𝓤 H A mem run)
       → Walks 𝓤 H A body.ended stayed (WpFn 𝓤 H C Λ code.function) (body.clauses 𝓤 H A mem run)
   open-body-walks C Λ fm known = walked 𝓤 H A body.ended stayed (body.clauses 𝓤 H A mem run) (WpFn 𝓤 H C Λ code.function) (λ κs. (slice-vals, (uint-vals w32, tt))) (λ κs. (shr-slice-tells (named 0) (κs .0) u8, (uint-tells w32, tt)))
       (λ κs qs bounds a g are. via 𝓤 _ (fst∗ 𝓤 _ (emp 𝓤)) (walk 𝓤 H A W mem run (κs .0) (qs .0) (a .0) (a .1 .0) (are .1 .0 .1) C Λ fm known (are .0)))
 
 open-body-meets : {M : Type 1} (𝓤 : URA M) (H : Heap 𝓤) (A : Atoms 𝓤) (W : Given 𝓤 H A) (mem : Memory → SProp 𝓤) (run : Routine → Fun 𝓤) (𝓣 : Tables 𝓤 H)
-    → Triple 𝓤 (𝓣 .C #job·opening·open) (Open 𝓤 H A mem run)
+    → Triple 𝓤 (𝓣 .C #opener·open) (Open 𝓤 H A mem run)
     → Meets 𝓤 H A body.signature (WpFn 𝓤 H (𝓣 .C) (𝓣 .Λ) code.function) (body.spec 𝓤 H A mem run)
 open-body-meets 𝓤 H A W mem run 𝓣 known =
     walk-meets 𝓤 H A body.ended stayed W (goes-none-slice 𝓤 H A W 1 (0 ∷ []) tt (plain (λ _. u8)) yes, (goes-none 𝓤 H A W 1 (λ _. u32) yes (λ κs x f. refl), tt)) (body.clauses 𝓤 H A mem run)
@@ -160,6 +160,6 @@ pub open-body-spec : {M : Type 1} → stated.statement M
 unfolding code.routine tablesOf
 open-body-spec 𝓤 H 𝓜 𝓖 𝓡 =
     entered 𝓤 H (tripleOf 𝓤 H (𝓖 .A) body.signature (body.spec 𝓤 H (𝓖 .A) (𝓜 .mem) (𝓡 .run)))
-    (tables 𝓤 H 𝓜 𝓡 code.env .C) (tables 𝓤 H 𝓜 𝓡 code.env .Λ) #job·inner·open-body code.function (code.unfolded 𝓤 H 𝓜 𝓡)
+    (tables 𝓤 H 𝓜 𝓡 code.env .C) (tables 𝓤 H 𝓜 𝓡 code.env .Λ) #opener·inner·open-body code.function (code.unfolded 𝓤 H 𝓜 𝓡)
     (open-body-meets 𝓤 H (𝓖 .A) (givenOf 𝓤 H 𝓜 𝓖) (𝓜 .mem) (𝓡 .run) (tablesOf 𝓤 H 𝓜 (tables 𝓤 H 𝓜 𝓡 code.env))
-    (cited 𝓤 H (Open 𝓤 H (𝓖 .A) (𝓜 .mem) (𝓡 .run)) 𝓜 𝓡 code.env #job·opening·open open-def.routine code.calls-job·opening·open (open-thm.met 𝓤 H 𝓜 𝓖 𝓡)))
+    (cited 𝓤 H (Open 𝓤 H (𝓖 .A) (𝓜 .mem) (𝓡 .run)) 𝓜 𝓡 code.env #opener·open open-def.routine code.calls-opener·open (open-thm.met 𝓤 H 𝓜 𝓖 𝓡)))
