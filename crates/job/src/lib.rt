@@ -1,4 +1,5 @@
 // The job file: its checks, and where a trace's body stands in it.
+pub mod bodies;
 pub mod parts;
 pub mod refusal;
 pub mod table;

@@ -6,7 +6,7 @@ ghost use Rattle.record.specs.Part.{StartsAt};
 ghost use Rattle.job.specs.Open.{partOf};
 
 // The bytes from start to end, in their place.
-fn part(file: &[u8], start: usize, end: usize) -> &[u8]
+pub(crate) fn part(file: &[u8], start: usize, end: usize) -> &[u8]
     requires { ⌜ (start ≤ end) × (end ≤ length (now file)) ⌝ }
     ensures { λ r. ⌜ (now r ≡ take (end - start) (drop start (now (file .entry)))) × StartsAt (file .entry) start r ⌝ }
 {

@@ -1,13 +1,13 @@
 // What a line of the report says of a trace.
 ghost use mathlib.Core.Path.{_≡_};
-ghost use Prim.Native.Nat.{_+_, _≤_};
+ghost use Prim.Native.Nat.{_+_, _<_, _≤_};
 ghost use Rattle.record.specs.Rules.{flagOf};
 ghost use Rattle.record.specs.Body.{traceOf, bodyRefusal};
-ghost use Rattle.job.specs.Open.{openRefusal};
+ghost use Rattle.job.specs.Layout.{traces};
+ghost use Rattle.job.specs.Open.{fileRefusal};
 ghost use Rattle.report_text.specs.Report.{isUnknown, unknownFlags, lineOf, lineAt, met};
 use crate::deadlines::deadline_at;
-use job::cut;
-use job::locate;
+use job::bodies::body_of;
 use record::Fields;
 use record::fields_at;
 use record::layout::RECORD_SIZE;
@@ -67,12 +67,11 @@ fn line_of(body: &[u8], number: u32, deadline: u32) -> Line
 }
 
 pub(crate) fn line_at(file: &[u8], deadlines: &[u32], t: u32) -> Line
-    requires { ⌜ openRefusal (now file) t ≡ 0 ⌝ }
+    requires { ⌜ (fileRefusal (now file) ≡ 0) × (t < traces (now file)) ⌝ }
     ensures { λ r. ⌜ r ≡ lineAt (now (file .entry)) (now (deadlines .entry)) t ⌝ }
 {
-    let found = locate(file, t);
     let deadline = deadline_at(deadlines, t);
-    line_of(cut(file, found.start, found.end), t, deadline)
+    line_of(body_of(file, t), t, deadline)
 }
 
 // 1 if the deadline is met, exactly or with time to spare; else 0.

@@ -4,7 +4,6 @@ use mathlib.Core.Path.{_≡_, refl, sym, ap, ap₂, _∙_}
 use native.Mathlib.Omega.{arith}
 use native.Mathlib.Numerals.{add-one}
 use lib.ListN.{length}
-use Rattle.job.proofs.Accepted.{open-accepted}
 use Rattle.text.specs.Text.{Wrote}
 use Rattle.text.proofs.Pieces.{wrote-nothing, wrote-then, as-text}
 use Rattle.report_text.specs.Report.{lineText, linesText, met, metBelow}
@@ -28,7 +27,7 @@ unfolding linesText metBelow
 loop-holds c = (omega arith, refl, omega arith, refl, omega arith, wrote-nothing _ _ (omega (arith, c .before .before .before .pre .2)))
 
 line-at-requires : tie.Need-line-at-requires Inv-loop μ-loop
-line-at-requires c κs = open-accepted _ _ (c .before .before .before .before .before .pre .0) (omega (arith, c .loop-test .taken, c .before .before .before .before .before .pre .1))
+line-at-requires c κs = (c .before .before .before .before .before .pre .0, omega (arith, c .loop-test .taken, c .before .before .before .before .before .pre .1))
 
 put-line-requires : tie.Need-put-line-requires Inv-loop μ-loop
 put-line-requires c κs = let a = c .before .before .before .before .before .before .before .args in let i = c .before .before .before .loop .inv in let small = line-small (a .file .now) (c .before .before .before .before .before .before .before .pre .0) (a .deadlines .now) (c .before .before .before .loop .t) (omega (arith, c .before .before .loop-test .taken, c .before .before .before .before .before .before .before .pre .1)) (c .before .line-at .ensures) in (small .0, small .1, omega (arith, i .3, i .4, c .before .before .loop-test .taken, c .before .before .before .before .before .before .before .pre .2))
