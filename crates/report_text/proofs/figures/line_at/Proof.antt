@@ -1,11 +1,12 @@
--- `report_text::figures::line_at` meets its contract: the body is the one that Open hands back, which is accepted.
+-- `line_at` meets its contract: the body is the one that Open hands back, which is accepted.
 use Prim.Native.Nat.{ℕ}
 use mathlib.Core.List.{List}
 use mathlib.Core.Path.{ap, ap₂, _∙_}
 use Rattle.record.specs.Body.{traceOf, bodyRefusal}
 use Rattle.job.proofs.Accepted.{open-accepted}
 use Rattle.job.proofs.Part.{opened-accepted}
-use Rattle.report_text.specs.Report.{lineOf, lineAt}
+use Rattle.report_figures.specs.Figures.{lineOf}
+use Rattle.report_text.specs.Report.{lineAt}
 use Rattle.report_text.proofs.figures.line_at.Statement.{statement}
 use Rattle.report_text.proofs.figures.line_at.Tie as tie
 

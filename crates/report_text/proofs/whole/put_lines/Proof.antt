@@ -1,4 +1,4 @@
--- `report_text::whole::put_lines` meets its contract: at the loop's head the lines of the first t traces are put, and their met deadlines counted.
+-- `put_lines` meets its contract: at the loop's head the lines of the first t traces are put, and their met deadlines counted.
 use Prim.Native.Nat.{ℕ, _+_, _*_, _-_, _≤_}
 use mathlib.Core.Path.{_≡_, refl, sym, ap, ap₂, _∙_}
 use native.Mathlib.Omega.{arith}
@@ -6,15 +6,17 @@ use native.Mathlib.Numerals.{add-one}
 use lib.ListN.{length}
 use Rattle.text.specs.Text.{Wrote}
 use Rattle.text.proofs.Pieces.{wrote-nothing, wrote-then, as-text}
-use Rattle.report_text.specs.Report.{lineText, linesText, met, metBelow}
+use Rattle.report_figures.specs.Figures.{met}
+use Rattle.report_lines.specs.Lines.{lineText}
+use Rattle.report_text.specs.Report.{linesText, metBelow}
 use Rattle.report_text.proofs.Fits.{few-traces, line-small}
 use Rattle.report_text.proofs.whole.put_lines.Statement.{statement}
 use Rattle.report_text.proofs.whole.put_lines.Tie as tie
 use Rattle.report_text.proofs.whole.put_lines.Reads as reads
 use Rattle.report_text.proofs.whole.put_lines.Lts as lts
 use Rattle.report_text.proofs.figures.line_at.Reads as line-at-reads
-use Rattle.report_text.proofs.figures.met_by.Reads as met-by-reads
-use Rattle.report_text.proofs.lines.put_line.Reads as put-line-reads
+use Rattle.report_figures.proofs.met_by.Reads as met-by-reads
+use Rattle.report_lines.proofs.put_line.Reads as put-line-reads
 
 abbrev Inv-loop : tie.InvT-loop
 Inv-loop file deadlines out₀ at all end₀ met₀ t₀ out end met t = (t ≤ all) × (met ≡ metBelow file deadlines t) × (met ≤ t) × (length out ≡ length out₀) × (end ≡ at + 78 * t) × Wrote at (linesText file deadlines t) out₀ out end
