@@ -200,7 +200,7 @@ pub fn accepted(k: u32, file: &mut [u8]) -> Seen {
 fn bytes_given(file: &[u8], trace: u32) -> u32 {
     let found = job::locate(file, trace);
     if found.start == 0 && found.end == 0 {
-        return number(job::inner::open_body(file, trace).len());
+        return number(opener::inner::open_body(file, trace).len());
     }
     NO
 }
@@ -269,7 +269,7 @@ fn end_of(opened: Opened) -> u32 {
 // Start, end, length and bytes of a trace's part.
 fn part_of(all: &[u8], t: u32, start: u32, end: u32, what: u32) -> Seen {
     let found = job::locate(all, t);
-    let body = job::inner::open_body(all, t);
+    let body = opener::inner::open_body(all, t);
     let opened = model::open(all, t);
     match what {
         0 => Seen {

@@ -14,8 +14,8 @@ use Rattle.record.proofs.Refusals.{then-first, then-second, then-none, stop, un
 use Rattle.record.specs.Body.{recordRefusal}
 use Rattle.job.specs.Refusal.{wrongEnd, firstRefusal}
 use Rattle.job.specs.Layout.{traces, maxTraces, entryAt, offsetAt, countAt, maxCount, maxFile, startAt, bodyAt}
-use Rattle.job.specs.Open.{entryRefusal, tableRefusal, entriesRefusal, tracesRefusal, fileRefusal, openRefusal, openBody, locateAnswer}
-use Rattle.job.specs.declared.table.Located.{Located}
+use Rattle.job.specs.Open.{entryRefusal, tableRefusal, entriesRefusal, tracesRefusal, fileRefusal, openRefusal, openBody, boundsAt, locateAnswer}
+use Rattle.job.specs.declared.bodies.Bounds.{Bounds}
 use Rattle.job.proofs.First.{first-at}
 use Rattle.job.proofs.Entries.{entry-count, entry-at, start-suc}
 use Rattle.job.proofs.Joined.{joined, body-inside}
@@ -89,6 +89,16 @@ body-fits file fine t l =
     let s = fine .table .short in
     omega arith
 
+-- a body starts at its entry's offset, and ends where the next one starts
+pub bounds-read
+    : (file : List ℕ) → fileRefusal file ≡ 0 → (t : ℕ) → t < traces file → {start count : ℕ} →
+    start ≡ offsetAt file t →
+    count ≡ countAt file t →
+    record { start = start; end = start + recordSize * count } ≡ boundsAt file t
+bounds-read file e t l s c =
+    let at = s ∙ file-fine file e .entries t l .1 in
+    rw (start-suc (traces file) (countAt file) t, at, c)
+
 -- what Open and `locate` give, by whether the file or the trace number is declined
 module _ (file : List ℕ) (trace : ℕ) where
   pub open-accepted : fileRefusal file ≡ 0 → trace < traces file → openRefusal file trace ≡ 0
@@ -100,12 +110,10 @@ module _ (file : List ℕ) (trace : ℕ) where
   locate-refused r e h = rw (← e, ne-eqb _ _ h)
 
   pub locate-found
-      : (start end : ℕ) → fileRefusal file ≡ 0 → trace < traces file → start ≡ offsetAt file trace → end ≡ start + recordSize * countAt file trace →
-      locateAnswer file trace ≡ record { refusal = 0; start = start; end = end }
+      : (b : Bounds) → fileRefusal file ≡ 0 → trace < traces file → b ≡ boundsAt file trace →
+      locateAnswer file trace ≡ record { refusal = 0; start = b .start; end = b .end }
   unfolding locateAnswer
-  locate-found start end e l s f =
-      let at = s ∙ file-fine file e .entries trace l .1 in
-      rw (eq-eqb _ _ (open-accepted e l), start-suc (traces file) (countAt file) trace, ← at, ← f)
+  locate-found b e l f = rw (eq-eqb _ _ (open-accepted e l), f)
 
   pub open-out : (n : ℕ) → fileRefusal file ≡ 0 → n ≡ traces file → n ≤ trace → openRefusal file trace ≡ outOfRange
   unfolding openRefusal _unless_

@@ -1,14 +1,14 @@
 -- The part of the file that `locate`'s answer names is the body that Open hands back, in its place: an accepted body lies in its file, and a
 -- refusal names an empty part. Such a body is accepted.
-use Prim.Native.Nat.{ℕ, suc, _<_, _≤_, _/_, _%_}
+use Prim.Native.Nat.{ℕ, suc, _-_, _<_, _≤_, _/_, _%_}
 use mathlib.Core.Bool.{Bool, true, false}
 use mathlib.Core.List.{List, []}
-use mathlib.Core.Path.{_≡_, refl, sym, subst, _∙_}
+use mathlib.Core.Path.{_≡_, refl, sym, ap, subst, _∙_}
 use borrow.Author.Tests.{ltb-true, le-leb, eqb-true, eq-eqb}
 use native.Mathlib.Nat.{add-sub-cancel-left}
 use native.Mathlib.Omega.{arith}
 use lib.Dec.{eqb}
-use lib.ListN.{length}
+use lib.ListN.{length, take, drop}
 use denote.Ref.{RefT, now}
 use Rattle.machine.specs.State.{maxInstructions}
 use Rattle.record.specs.Part.{StartsAt}
@@ -17,12 +17,27 @@ use Rattle.record.specs.Refusal.{_unless_}
 use Rattle.record.specs.Body.{lengthRefusal, recordRefusal, bodyRefusal}
 use Rattle.record.proofs.Refusals.{then-first, then-second, then-none, unless-passed}
 use Rattle.job.specs.Layout.{traces, countAt, startAt, bodyAt}
-use Rattle.job.specs.Open.{tracesRefusal, fileRefusal, openRefusal, openBody, locateAnswer, partOf}
+use Rattle.job.specs.Open.{tracesRefusal, fileRefusal, openRefusal, openBody, boundsAt, locateAnswer, partOf}
+use Rattle.job.specs.declared.bodies.Bounds.{Bounds}
 use Rattle.job.specs.declared.table.Located.{Located}
-use Rattle.job.proofs.Accepted.{file-fine}
+use Rattle.job.proofs.Accepted.{file-fine, open-accepted}
 use Rattle.job.proofs.Entries.{start-suc}
 use Rattle.job.proofs.First.{first-at}
 use Rattle.job.proofs.Joined.{body-inside, body-length}
+
+-- a body lies in its file, up to where the next one starts
+body-between
+    : (file : List ℕ) (t : ℕ) →
+    take (startAt file (suc t) - startAt file t) (drop (startAt file t) file) ≡ bodyAt file t
+body-between file t = rw (start-suc (traces file) (countAt file) t, add-sub-cancel-left)
+
+body-lies
+    : (file : List ℕ) (t : ℕ) → fileRefusal file ≡ 0 → t < traces file →
+    (startAt file t ≤ startAt file (suc t)) × (startAt file (suc t) ≤ length file)
+body-lies file t accepted below =
+    let next = start-suc (traces file) (countAt file) t in
+    let lies = body-inside file (file-fine file accepted .ends) t below in
+    (omega arith, omega arith)
 
 module _ (file : List ℕ) (trace : ℕ) where
   pub opened-file : openRefusal file trace ≡ 0 → fileRefusal file ≡ 0
@@ -36,11 +51,25 @@ module _ (file : List ℕ) (trace : ℕ) where
   part-body : openRefusal file trace ≡ 0 → partOf file (startAt file trace) (startAt file (suc trace)) ≡ bodyAt file trace
   unfolding partOf
   part-body e =
-      rw (
-        start-suc (traces file) (countAt file) trace,
-        le-leb _ _ (body-inside file (file-fine file (opened-file e) .ends) trace (opened-trace e)),
-        add-sub-cancel-left,
-      )
+      rw (le-leb _ _ (body-lies file trace (opened-file e) (opened-trace e) .1)) (body-between file trace)
+
+  pub bounds-lie
+      : fileRefusal file ≡ 0 → trace < traces file → (b : Bounds) → b ≡ boundsAt file trace →
+      (b .start ≤ b .end) × (b .end ≤ length file)
+  bounds-lie accepted below b e =
+      subst (λ (x : Bounds). (x .start ≤ x .end) × (x .end ≤ length file)) (sym e) (body-lies file trace accepted below)
+
+  -- the bytes between a body's bounds are what Open hands back
+  pub bounds-body
+      : fileRefusal file ≡ 0 → trace < traces file → {part : List ℕ} → (b : Bounds) → b ≡ boundsAt file trace →
+      part ≡ take (b .end - b .start) (drop (b .start) file) →
+      part ≡ openBody file trace
+  unfolding openBody
+  bounds-body accepted below b e said =
+      said
+      ∙ ap (λ (x : Bounds). take (x .end - x .start) (drop (x .start) file)) e
+      ∙ body-between file trace
+      ∙ rw (eq-eqb _ _ (open-accepted file trace accepted below)) refl
 
   part-none : partOf file 0 0 ≡ []
   unfolding partOf
@@ -83,12 +112,6 @@ module _ (whole part : RefT (List ℕ)) (trace : ℕ) where
   unfolding locateAnswer
   found e = rw (eq-eqb (openRefusal (now whole) trace) 0 e)
 
-  inside : openRefusal (now whole) trace ≡ 0 → (startAt (now whole) trace ≤ startAt (now whole) (suc trace)) × (startAt (now whole) (suc trace) ≤ length (now whole))
-  inside e =
-      let next = start-suc (traces (now whole)) (countAt (now whole)) trace in
-      let lies = body-inside (now whole) (file-fine (now whole) (opened-file (now whole) trace e) .ends) trace (opened-trace (now whole) trace e) in
-      (omega arith, omega arith)
-
   -- a part that is cut out where `locate` says starts where the body does
   pub placed
       : (l : Located) → l ≡ locateAnswer (now whole) trace →
@@ -96,9 +119,10 @@ module _ (whole part : RefT (List ℕ)) (trace : ℕ) where
       openRefusal (now whole) trace ≡ 0 →
       StartsAt whole (startAt (now whole) trace) part
   placed l e cut z =
+      let lies = body-lies (now whole) trace (opened-file (now whole) trace z) (opened-trace (now whole) trace z) in
       subst
       (λ (x : Located). (x .start ≤ x .end → x .end ≤ length (now whole) → StartsAt whole (x .start) part))
       (e ∙ found z)
       cut
-      (inside z .0)
-      (inside z .1)
+      (lies .0)
+      (lies .1)

@@ -8,6 +8,7 @@ use Rattle.record.specs.Refusal.{_then_, _unless_, outOfRange}
 use Rattle.record.specs.Body.{recordRefusal}
 use Rattle.job.specs.Refusal.{tooLong, tooShort, tooManyTraces, cutTable, largeCount, wrongOffset, wrongEnd, firstRefusal}
 use Rattle.job.specs.Layout.{headerSize, maxTraces, traces, maxCount, entryAt, offsetAt, countAt, maxFile, startAt, bodyAt}
+use Rattle.job.specs.declared.bodies.Bounds.{Bounds}
 use Rattle.job.specs.declared.table.Located.{Located}
 
 -- "Then entry by entry, 5 count above 4,096, 6 wrong offset."
@@ -45,11 +46,15 @@ openRefusal file trace = fileRefusal file then (outOfRange unless ltb trace (tra
 unfoldable pub openBody : List ℕ → ℕ → List ℕ
 openBody file trace = cond (eqb (openRefusal file trace) 0) (bodyAt file trace) []
 
--- the same by value: where the part starts and ends
+-- where the body of trace t starts and ends
+abbrev pub boundsAt : List ℕ → ℕ → Bounds
+boundsAt file t = record { start = startAt file t; end = startAt file (suc t) }
+
+-- what Open answers, by value: a refusal with zeros, or 0 and the bounds
 unfoldable pub locateAnswer : List ℕ → ℕ → Located
 locateAnswer file trace =
     cond (eqb (openRefusal file trace) 0)
-    (record { refusal = 0; start = startAt file trace; end = startAt file (suc trace) })
+    (record { refusal = 0; start = boundsAt file trace .start; end = boundsAt file trace .end })
     (record { refusal = openRefusal file trace; start = 0; end = 0 })
 
 -- the bytes of a file from start to end, or none if the file ends before that end

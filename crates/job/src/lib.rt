@@ -1,12 +1,10 @@
-// The job file: Open finds a trace's body in a file.
-pub mod inner;
-pub mod opening;
+// The job file: its checks, and where a trace's body stands in it.
+pub mod bodies;
+pub mod parts;
 pub mod refusal;
 pub mod table;
 
-pub use opening::Opened;
-pub use opening::cut;
-pub use opening::open;
+pub use parts::cut;
 pub use table::Located;
 pub use table::file_refusal;
 pub use table::locate;

@@ -9,6 +9,7 @@ ghost use Rattle.job.specs.Open.{
   fileRefusal,
   locateAnswer,
 };
+use crate::bodies::bounds_of;
 use crate::refusal::CUT_TABLE;
 use crate::refusal::LARGE_COUNT;
 use crate::refusal::TOO_LONG;
@@ -133,12 +134,10 @@ pub fn locate(file: &[u8], trace: u32) -> Located
             end: 0,
         };
     }
-    let at = HEADER_SIZE + ENTRY_SIZE * trace;
-    let start = word(file, at);
-    let end = start + RECORD_BYTES * half(file, at + COUNT_IN_ENTRY);
+    let bounds = bounds_of(file, trace);
     Located {
         refusal: 0,
-        start: start as usize,
-        end: end as usize,
+        start: bounds.start,
+        end: bounds.end,
     }
 }

@@ -2,10 +2,10 @@
 // there is nothing to report, one line says why and what to give instead.
 mod tell;
 
+use deadlines::Deadline;
+use deadlines::deadline_of;
 use libc::STDIN_FILENO;
 use libc::STDOUT_FILENO;
-use report_text::Deadline;
-use report_text::deadline_of;
 use report_text::report;
 
 const MAX_TRACES: usize = 16;

@@ -6,7 +6,8 @@ use lib.ListN.{length}
 use Rattle.record.specs.Body.{traceOf}
 use Rattle.job.specs.Layout.{traces}
 use Rattle.job.specs.Open.{fileRefusal, openBody}
-use Rattle.report_text.specs.Report.{lineOf, lineText, headerText, lineBytes}
+use Rattle.report_figures.specs.Figures.{lineOf}
+use Rattle.report_lines.specs.Lines.{lineText, headerText, lineBytes}
 
 -- Columns stay aligned for the largest values: for every trace of an accepted file and every 32-bit deadline, the line has the header's length. A
 -- column is never narrower than its width, so none is wider either.

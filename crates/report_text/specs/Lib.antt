@@ -1,3 +1,2 @@
-pub mod Deadline
 pub mod Report
 pub mod Claims

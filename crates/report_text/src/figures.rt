@@ -1,83 +1,31 @@
-// What a line of the report says of a trace.
+// The figures of each trace of a job file, with its deadline.
 ghost use mathlib.Core.Path.{_≡_};
-ghost use Prim.Native.Nat.{_+_, _≤_};
-ghost use Rattle.record.specs.Rules.{flagOf};
-ghost use Rattle.record.specs.Body.{traceOf, bodyRefusal};
-ghost use Rattle.job.specs.Open.{openRefusal};
-ghost use Rattle.report_text.specs.Report.{isUnknown, unknownFlags, lineOf, lineAt, met};
-use crate::deadlines::deadline_at;
-use job::cut;
-use job::locate;
-use record::Fields;
-use record::count;
-use record::fields_at;
-use timing::best_worst;
+ghost use Prim.Native.Nat.{_<_};
+ghost use Rattle.job.specs.Layout.{traces};
+ghost use Rattle.job.specs.Open.{fileRefusal};
+ghost use Rattle.report_text.specs.Report.{deadlineAt, lineAt};
+use job::bodies::body_of;
+use report_figures::Line;
+use report_figures::line_of;
 
-pub(crate) struct Line {
-    pub number: u32,
-    pub instructions: u32,
-    pub unknown: u32,
-    pub best: u32,
-    pub worst: u32,
-    pub deadline: u32,
-}
-
-// A flag is 0 hit, 1 miss, and otherwise unknown.
-fn unknown_of(flag: u32) -> u32
-    ensures { λ r. ⌜ (r ≡ isUnknown (flagOf flag)) × (r ≤ 1) ⌝ }
+// The deadline of trace t: the only one given, or its own.
+fn deadline_at(deadlines: &[u32], t: u32) -> u32
+    ensures { λ r. ⌜ r ≡ deadlineAt (now (deadlines .entry)) t ⌝ }
 {
-    if flag > 1 { 1 } else { 0 }
-}
-
-fn unknowns_of(f: Fields) -> u32
-    ensures { λ r. ⌜ (r ≡ isUnknown (flagOf (f .fetch)) + isUnknown (flagOf (f .access))) × (r ≤ 2) ⌝ }
-{
-    unknown_of(f.fetch) + unknown_of(f.access)
-}
-
-fn unknown_flags(body: &[u8]) -> u32
-    requires { ⌜ bodyRefusal (now body) ≡ 0 ⌝ }
-    ensures { λ r. ⌜ r ≡ unknownFlags (traceOf (now (body .entry))) ⌝ }
-{
-    let records = count(body);
-    let mut unknown = 0;
-    let mut k = 0;
-    while k < records {
-        let read = fields_at(body, k);
-        unknown += unknowns_of(read.fields);
-        k += 1;
+    if deadlines.len() == 1 {
+        return deadlines[0];
     }
-    unknown
-}
-
-fn line_of(body: &[u8], number: u32, deadline: u32) -> Line
-    requires { ⌜ bodyRefusal (now body) ≡ 0 ⌝ }
-    ensures { λ r. ⌜ r ≡ lineOf number (traceOf (now (body .entry))) deadline ⌝ }
-{
-    let times = best_worst(body);
-    let unknown = unknown_flags(body);
-    Line {
-        number,
-        instructions: count(body),
-        unknown,
-        best: times.best,
-        worst: times.worst,
-        deadline,
+    let i = t as usize;
+    if i < deadlines.len() {
+        return deadlines[i];
     }
+    0
 }
 
 pub(crate) fn line_at(file: &[u8], deadlines: &[u32], t: u32) -> Line
-    requires { ⌜ openRefusal (now file) t ≡ 0 ⌝ }
+    requires { ⌜ (fileRefusal (now file) ≡ 0) × (t < traces (now file)) ⌝ }
     ensures { λ r. ⌜ r ≡ lineAt (now (file .entry)) (now (deadlines .entry)) t ⌝ }
 {
-    let found = locate(file, t);
     let deadline = deadline_at(deadlines, t);
-    line_of(cut(file, found.start, found.end), t, deadline)
-}
-
-// 1 if the deadline is met, exactly or with time to spare; else 0.
-pub(crate) fn met_by(line: Line) -> u32
-    ensures { λ r. ⌜ (r ≡ met line) × (r ≤ 1) ⌝ }
-{
-    if line.worst <= line.deadline { 1 } else { 0 }
+    line_of(body_of(file, t), t, deadline)
 }

@@ -15,11 +15,11 @@ ghost use Rattle.report_text.specs.Report.{
   reportOutput,
 };
 use crate::figures::line_at;
-use crate::figures::met_by;
-use crate::lines::put_last;
-use crate::lines::put_line;
 use job::file_refusal;
 use little_endian::half;
+use report_figures::met_by;
+use report_lines::put_last;
+use report_lines::put_line;
 use text::put_text;
 
 // Room for any report: the header, 16 lines and the last line, its numbers taken as ten digits.

@@ -1,21 +1,22 @@
--- `report_text::whole::put_lines` meets its contract: at the loop's head the lines of the first t traces are put, and their met deadlines counted.
+-- `put_lines` meets its contract: at the loop's head the lines of the first t traces are put, and their met deadlines counted.
 use Prim.Native.Nat.{ℕ, _+_, _*_, _-_, _≤_}
 use mathlib.Core.Path.{_≡_, refl, sym, ap, ap₂, _∙_}
 use native.Mathlib.Omega.{arith}
 use native.Mathlib.Numerals.{add-one}
 use lib.ListN.{length}
-use Rattle.job.proofs.Accepted.{open-accepted}
 use Rattle.text.specs.Text.{Wrote}
 use Rattle.text.proofs.Pieces.{wrote-nothing, wrote-then, as-text}
-use Rattle.report_text.specs.Report.{lineText, linesText, met, metBelow}
+use Rattle.report_figures.specs.Figures.{met}
+use Rattle.report_lines.specs.Lines.{lineText}
+use Rattle.report_text.specs.Report.{linesText, metBelow}
 use Rattle.report_text.proofs.Fits.{few-traces, line-small}
 use Rattle.report_text.proofs.whole.put_lines.Statement.{statement}
 use Rattle.report_text.proofs.whole.put_lines.Tie as tie
 use Rattle.report_text.proofs.whole.put_lines.Reads as reads
 use Rattle.report_text.proofs.whole.put_lines.Lts as lts
 use Rattle.report_text.proofs.figures.line_at.Reads as line-at-reads
-use Rattle.report_text.proofs.figures.met_by.Reads as met-by-reads
-use Rattle.report_text.proofs.lines.put_line.Reads as put-line-reads
+use Rattle.report_figures.proofs.met_by.Reads as met-by-reads
+use Rattle.report_lines.proofs.put_line.Reads as put-line-reads
 
 abbrev Inv-loop : tie.InvT-loop
 Inv-loop file deadlines out₀ at all end₀ met₀ t₀ out end met t = (t ≤ all) × (met ≡ metBelow file deadlines t) × (met ≤ t) × (length out ≡ length out₀) × (end ≡ at + 78 * t) × Wrote at (linesText file deadlines t) out₀ out end
@@ -28,7 +29,7 @@ unfolding linesText metBelow
 loop-holds c = (omega arith, refl, omega arith, refl, omega arith, wrote-nothing _ _ (omega (arith, c .before .before .before .pre .2)))
 
 line-at-requires : tie.Need-line-at-requires Inv-loop μ-loop
-line-at-requires c κs = open-accepted _ _ (c .before .before .before .before .before .pre .0) (omega (arith, c .loop-test .taken, c .before .before .before .before .before .pre .1))
+line-at-requires c κs = (c .before .before .before .before .before .pre .0, omega (arith, c .loop-test .taken, c .before .before .before .before .before .pre .1))
 
 put-line-requires : tie.Need-put-line-requires Inv-loop μ-loop
 put-line-requires c κs = let a = c .before .before .before .before .before .before .before .args in let i = c .before .before .before .loop .inv in let small = line-small (a .file .now) (c .before .before .before .before .before .before .before .pre .0) (a .deadlines .now) (c .before .before .before .loop .t) (omega (arith, c .before .before .loop-test .taken, c .before .before .before .before .before .before .before .pre .1)) (c .before .line-at .ensures) in (small .0, small .1, omega (arith, i .3, i .4, c .before .before .loop-test .taken, c .before .before .before .before .before .before .before .pre .2))

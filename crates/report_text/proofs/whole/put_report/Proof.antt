@@ -1,14 +1,15 @@
--- `report_text::whole::put_report` meets its contract: the header, the lines and the last line are the report.
+-- `put_report` meets its contract: the header, the lines and the last line are the report.
 use mathlib.Core.Path.{ap, ap₂, _∙_}
 use Rattle.text.specs.Text.{spaces, right}
 use Rattle.text.proofs.Pieces.{wrote-then, as-text}
-use Rattle.report_text.specs.Report.{headerText, column, linesText, metBelow, lastText, reportText}
+use Rattle.report_lines.specs.Lines.{headerText, column, lastText}
+use Rattle.report_text.specs.Report.{linesText, metBelow, reportText}
 use borrow.Author.Needs.{needs}
 use Rattle.report_text.proofs.whole.put_report.Statement.{statement}
 use Rattle.report_text.proofs.whole.put_report.Tie as tie
 use Rattle.report_text.proofs.whole.put_report.Reads as reads
 use Rattle.report_text.proofs.whole.put_report.Lts as lts
-use Rattle.report_text.proofs.lines.put_last.Reads as put-last-reads
+use Rattle.report_lines.proofs.put_last.Reads as put-last-reads
 use Rattle.report_text.proofs.whole.put_lines.Reads as put-lines-reads
 use Rattle.text.proofs.put_text.Reads as put-text-reads
 

@@ -1,4 +1,4 @@
--- `report_text::whole::report` meets its contract, by cases of the refusal, the number of deadlines and the room.
+-- `report` meets its contract, by cases of the refusal, the number of deadlines and the room.
 use Rattle.job.specs.Open.{fileRefusal}
 use mathlib.Core.Path.{_≡_, sym, _∙_}
 use native.Mathlib.Omega.{arith}

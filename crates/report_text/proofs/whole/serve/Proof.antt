@@ -1,4 +1,4 @@
--- `report_text::whole::serve` meets its contract.
+-- `serve` meets its contract.
 use Rattle.machine.specs.Test.{_or_}
 use borrow.Author.Needs.{needs}
 use Rattle.report_text.specs.Report.{serves}

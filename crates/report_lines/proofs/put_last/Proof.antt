@@ -1,0 +1,49 @@
+-- `put_last` meets its contract.
+use native.Mathlib.Omega.{arith}
+use Rattle.text.proofs.Pieces.{wrote-then, decimal-short}
+use Rattle.report_lines.specs.Lines.{lastText}
+use borrow.Author.Needs.{needs}
+use Rattle.report_lines.proofs.put_last.Statement.{statement}
+use Rattle.report_lines.proofs.put_last.Tie as tie
+use Rattle.report_lines.proofs.put_last.Reads as reads
+use Rattle.report_lines.proofs.put_last.Lts as lts
+use Rattle.text.proofs.put_decimal.Reads as put-decimal-reads
+use Rattle.text.proofs.put_text.Reads as put-text-reads
+
+put-decimal-requires : tie.Need-put-decimal-requires
+put-decimal-requires c κs = omega (arith, c .before .before .pre, decimal-short (c .before .before .args .met))
+
+slice-aggregate-put-text : tie.Need-slice-aggregate-put-text
+slice-aggregate-put-text c = search needs
+
+put-text-requires : tie.Need-put-text-requires
+put-text-requires c κs = omega (arith, c .before .before .before .before .before .before .before .pre, decimal-short (c .before .before .before .before .before .before .before .args .met), c .before .before .before .before .put-decimal .ensures .0, c .before .before .before .before .put-decimal .kept .0)
+
+put-decimal-requires-2 : tie.Need-put-decimal-requires-2
+put-decimal-requires-2 c κs = omega (arith, c .before .before .before .before .before .before .before .before .before .before .before .pre, decimal-short (c .before .before .before .before .before .before .before .before .before .before .before .args .met), decimal-short (c .before .before .before .before .before .before .before .before .before .before .before .args .all), c .before .before .before .before .before .before .before .before .put-decimal .ensures .0, c .before .before .before .before .before .before .before .before .put-decimal .kept .0, c .before .before .before .put-text .ensures .0, c .before .before .before .put-text .kept .0)
+
+slice-aggregate-put-text-2 : tie.Need-slice-aggregate-put-text-2
+slice-aggregate-put-text-2 c = search needs
+
+put-text-requires-2 : tie.Need-put-text-requires-2
+put-text-requires-2 c κs = omega (arith, c .before .before .before .before .before .before .before .before .before .before .before .before .before .before .before .before .pre, decimal-short (c .before .before .before .before .before .before .before .before .before .before .before .before .before .before .before .before .args .met), decimal-short (c .before .before .before .before .before .before .before .before .before .before .before .before .before .before .before .before .args .all), c .before .before .before .before .before .before .before .before .before .before .before .before .before .put-decimal .ensures .0, c .before .before .before .before .before .before .before .before .before .before .before .before .before .put-decimal .kept .0, c .before .before .before .before .before .before .before .before .put-text .ensures .0, c .before .before .before .before .before .before .before .before .put-text .kept .0, c .before .before .before .before .put-decimal2 .ensures .0, c .before .before .before .before .put-decimal2 .kept .0)
+
+same-length : tie.Need-same-length
+same-length c = search needs
+
+returns : tie.Need-returns
+unfolding lastText
+returns c = wrote-then _ _ _ _ (wrote-then _ _ _ _ (wrote-then _ _ _ _ (c .before .before .before .before .before .before .before .before .before .before .before .before .before .before .before .before .put-decimal .ensures) (c .before .before .before .before .before .before .before .before .before .before .before .put-text .ensures)) (c .before .before .before .before .before .before .before .put-decimal2 .ensures)) (c .before .before .put-text2 .ensures)
+
+pub put-last-spec : {M : Type 1} → statement M
+put-last-spec =
+    tie.close
+    (tie.spec
+    put-decimal-requires
+    slice-aggregate-put-text
+    put-text-requires
+    put-decimal-requires-2
+    slice-aggregate-put-text-2
+    put-text-requires-2
+    same-length
+    returns)

@@ -1,0 +1,48 @@
+-- `put_signed` meets its contract: the sign and the digits after their padding are right-aligned.
+use mathlib.Core.List.{_∷_, []}
+use Prim.Native.Nat.{_+_, _-_}
+use native.Mathlib.Omega.{arith}
+use Rattle.text.proofs.Pieces.{wrote-then, decimal-short}
+use Rattle.text.proofs.Right.{length-spaces, wrote-right}
+use borrow.Author.Needs.{needs}
+use Rattle.report_lines.proofs.put_signed.Statement.{statement}
+use Rattle.report_lines.proofs.put_signed.Tie as tie
+use Rattle.report_lines.proofs.put_signed.Reads as reads
+use Rattle.report_lines.proofs.put_signed.Lts as lts
+use Rattle.text.proofs.digits.Reads as digits-reads
+use Rattle.text.proofs.put_padding.Reads as put-padding-reads
+use Rattle.text.proofs.put_byte.Reads as put-byte-reads
+use Rattle.text.proofs.put_decimal.Reads as put-decimal-reads
+
+digits-requires : tie.Need-digits-requires
+digits-requires c κs = search needs
+
+add-put-padding : tie.Need-add-put-padding
+add-put-padding c = omega (arith, c .digits .ensures, decimal-short (c .before .before .before .args .n))
+
+put-padding-requires : tie.Need-put-padding-requires
+put-padding-requires c κs = search needs
+
+put-byte-requires : tie.Need-put-byte-requires
+put-byte-requires c κs = let l = length-spaces (11 - (1 + c .before .before .before .before .digits .result)) in omega (arith, c .before .before .before .before .before .before .before .pre, c .before .before .before .before .digits .ensures, decimal-short (c .before .before .before .before .before .before .before .args .n), c .before .before .before .put-padding .ensures .0, c .before .before .before .put-padding .kept .0)
+
+put-decimal-requires : tie.Need-put-decimal-requires
+put-decimal-requires c κs = let l = length-spaces (11 - (1 + c .before .before .before .before .before .before .before .before .digits .result)) in omega (arith, c .before .before .before .before .before .before .before .before .before .before .before .pre, c .before .before .before .before .before .before .before .before .digits .ensures, decimal-short (c .before .before .before .before .before .before .before .before .before .before .before .args .n), c .before .before .before .before .before .before .before .put-padding .ensures .0, c .before .before .before .before .before .before .before .put-padding .kept .0, c .before .before .before .put-byte .ensures .0, c .before .before .before .put-byte .kept .0)
+
+same-length : tie.Need-same-length
+same-length c = search needs
+
+returns : tie.Need-returns
+returns c = let a = c .before .before .before .before .before .before .before .before .before .before .before .before .before .before .args in wrote-right (a .at) 11 _ _ (a .out .now) (omega (arith, c .before .before .before .before .before .before .before .before .before .before .before .digits .ensures)) (c .before .before .before .before .before .before .before .before .before .before .put-padding .ensures) (wrote-then _ (a .sign ∷ []) _ _ (c .before .before .before .before .before .before .put-byte .ensures) (c .before .before .put-decimal .ensures))
+
+pub put-signed-spec : {M : Type 1} → statement M
+put-signed-spec =
+    tie.close
+    (tie.spec
+    digits-requires
+    add-put-padding
+    put-padding-requires
+    put-byte-requires
+    put-decimal-requires
+    same-length
+    returns)
