@@ -1,6 +1,5 @@
--- The pipeline state against the rules: the place that it gives each instruction, the state that places give, and which states are orderly. The
--- limit on a trace belongs to the state, as the starting state does.
--- Document 01, "One cycle", its last paragraph.
+-- The pipeline state against the rules: the place that it gives each instruction, the state that places give, and which states are orderly; and
+-- the limit on a trace, which belongs to the state's kind. Document 01, "One cycle", its last paragraph.
 use Prim.Native.Nat.{ℕ, zero, suc, _+_, _≤_, _<_}
 use mathlib.Core.Bool.{Bool, true, false, not, cond}
 use mathlib.Core.Path.{_≡_}

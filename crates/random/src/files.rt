@@ -4,6 +4,7 @@ use crate::dice::part;
 use crate::dice::small;
 use crate::traces::Draft;
 use job::locate;
+use record::layout::RECORD_SIZE;
 use writer::write;
 
 // A file, whole or damaged; the refusals that Write gave with room for it and without, and whether
@@ -205,7 +206,7 @@ pub fn broken(draft: Draft, d: Dice) -> File {
     let bytes = padded(body);
     let whole = File {
         bytes,
-        length: draft.n % 16 * 10,
+        length: draft.n % 16 * RECORD_SIZE,
         refusal: 0,
         short: 0,
         agree: true,

@@ -7,6 +7,11 @@ use crate::tally::more;
 use crate::traces::Draft;
 use model::Instruction;
 use model::Place;
+use record::layout::DATA_LATENCY;
+use record::layout::EXECUTION;
+use record::layout::FETCH_LATENCY;
+use record::layout::FLAGS;
+use record::layout::RECORD_SIZE;
 ghost use Prim.Native.Nat.{_<_};
 
 // What is added to a flag: 1 where it was a hit and is to be a miss.
@@ -36,13 +41,13 @@ fn slower_latency(b: u8, d: Dice) -> u8 {
 
 // What a byte of the second body may be.
 fn slower_byte(b: u8, at: usize, d: Dice, flags: bool, memory: bool) -> u8 {
-    if at == 1 {
+    if at == FLAGS {
         if flags {
             return slower_flags(b, d, memory);
         }
         return b;
     }
-    if at == 5 || at == 6 || (at == 8 && memory) {
+    if at == EXECUTION || at == FETCH_LATENCY || (at == DATA_LATENCY && memory) {
         return slower_latency(b, d);
     }
     b
@@ -50,7 +55,7 @@ fn slower_byte(b: u8, at: usize, d: Dice, flags: bool, memory: bool) -> u8 {
 
 // Whether the record of byte i is a load or a store; its kind is its first byte, which stays.
 fn of_memory(bytes: [u8; 120], i: usize) -> bool {
-    let first = i - i % 10;
+    let first = i - i % RECORD_SIZE;
     if first < 120 {
         return bytes[first] == 1 || bytes[first] == 2;
     }
@@ -63,8 +68,8 @@ pub fn slower(draft: Draft, flags: bool) -> Draft {
     let mut i = 0;
     while i < 120 {
         d = rolled(d);
-        if i / 10 < draft.n {
-            bytes[i] = slower_byte(bytes[i], i % 10, d, flags, of_memory(bytes, i));
+        if i / RECORD_SIZE < draft.n {
+            bytes[i] = slower_byte(bytes[i], i % RECORD_SIZE, d, flags, of_memory(bytes, i));
         }
         i += 1;
     }

@@ -1,22 +1,14 @@
 // Traces of 0 to 12 instructions as bodies, dense in hazards: four registers, short latencies, and
 // now and then the longest.
+ghost use Prim.Native.Nat.{_<_, _≤_};
+ghost use Rattle.record.specs.Layout.{Fits};
 use crate::dice::Dice;
 use crate::dice::part;
 use crate::dice::rolled;
-use crate::dice::small;
+use record::Fields;
+use record::put_record;
 
-pub const MOST: usize = 12;
-
-pub struct Record {
-    pub kind: u8,
-    pub flags: u8,
-    pub first: u8,
-    pub second: u8,
-    pub target: u8,
-    pub execution: u8,
-    pub fetch_latency: u32,
-    pub data_latency: u32,
-}
+pub const MOST: u32 = 12;
 
 // A body of n records and the dice after it.
 pub struct Draft {
@@ -32,59 +24,54 @@ pub struct Style {
     pub long: bool,
 }
 
-fn latency(d: Dice, at: u32, long: bool) -> u32 {
+fn latency(d: Dice, at: u32, long: bool) -> u32
+    ensures { λ r. ⌜ r < 65536 ⌝ }
+{
     if long && part(d, at, 16) == 0 {
         return 65535;
     }
-    1 + part(d, at, 6)
+    1 + part(d, at, 6) % 6
 }
 
-fn low(n: u32) -> u8 {
-    (n % 256) as u8
+fn only(test: bool, n: u32) -> u32
+    ensures { λ r. ⌜ r ≤ n ⌝ }
+{
+    if test {
+        return n;
+    }
+    0
 }
 
-pub fn drawn(d: Dice, e: Dice, style: Style) -> Record {
-    let kind = small(d, 0, 4);
-    let memory = kind == 1 || kind == 2;
-    let fetch = small(d, 3, style.flags) % 4;
-    let access = small(d, 6, style.flags) % 4;
-    Record {
+pub fn drawn(d: Dice, e: Dice, style: Style) -> Fields
+    ensures { λ r. ⌜ Fits r ⌝ }
+{
+    let kind = part(d, 0, 4) % 4;
+    let memory = (kind == 1) | (kind == 2);
+    Fields {
         kind,
-        flags: if memory { fetch + 4 * access } else { fetch },
-        first: small(d, 10, 4),
-        second: small(d, 13, 4),
-        target: if kind < 2 { small(d, 16, 4) } else { 0 },
-        execution: if small(d, 24, 2) == 0 {
-            0
-        } else {
-            small(d, 20, 5)
-        },
+        fetch: part(d, 3, style.flags) % 4,
+        access: only(memory, part(d, 6, style.flags) % 4),
+        source1: part(d, 10, 4) % 4,
+        source2: part(d, 13, 4) % 4,
+        target: only(kind < 2, part(d, 16, 4) % 4),
+        execution: only(part(d, 24, 2) != 0, part(d, 20, 5) % 5),
         fetch_latency: latency(e, 0, style.long),
-        data_latency: if memory { latency(e, 8, style.long) } else { 0 },
+        data_latency: only(memory, latency(e, 8, style.long)),
     }
 }
 
-pub fn stored(bytes: [u8; 120], k: usize, r: Record) -> [u8; 120] {
-    if k >= MOST {
-        return bytes;
-    }
-    let at = 10 * k;
+pub fn stored(bytes: [u8; 120], k: u32, f: Fields) -> [u8; 120]
+    requires { ⌜ Fits f ⌝ }
+{
     let mut b = bytes;
-    b[at] = r.kind;
-    b[at + 1] = r.flags;
-    b[at + 2] = r.first;
-    b[at + 3] = r.second;
-    b[at + 4] = r.target;
-    b[at + 5] = r.execution;
-    b[at + 6] = low(r.fetch_latency);
-    b[at + 7] = low(r.fetch_latency / 256);
-    b[at + 8] = low(r.data_latency);
-    b[at + 9] = low(r.data_latency / 256);
+    if k < MOST {
+        put_record(&mut b, k, f);
+    }
     b
 }
 
 // The draft with its k-th record drawn.
-fn with_record(draft: Draft, k: usize, style: Style) -> Draft {
+fn with_record(draft: Draft, k: u32, style: Style) -> Draft {
     let a = rolled(draft.dice);
     let b = rolled(a);
     let before = draft.bytes;
@@ -98,9 +85,13 @@ fn with_record(draft: Draft, k: usize, style: Style) -> Draft {
 
 pub fn trace(dice: Dice, style: Style) -> Draft {
     let d = rolled(dice);
-    let n = part(d, 30, 13) as usize;
+    let n = part(d, 30, 13);
     let bytes = [0u8; 120];
-    let mut draft = Draft { bytes, n, dice: d };
+    let mut draft = Draft {
+        bytes,
+        n: n as usize,
+        dice: d,
+    };
     let mut k = 0;
     while k < n {
         draft = with_record(draft, k, style);

@@ -25,10 +25,15 @@ use crate::times::margin_agrees;
 use crate::times::model_bounds;
 use crate::times::model_finish;
 use crate::traces::Draft;
+use record::layout::RECORD_SIZE;
 ghost use Prim.Native.Nat.{_<_};
 
 pub fn length_of(draft: Draft) -> usize {
-    if draft.n < 13 { 10 * draft.n } else { 0 }
+    if draft.n < 13 {
+        RECORD_SIZE * draft.n
+    } else {
+        0
+    }
 }
 
 // Every row and the finishing time of a trace without unknown flags.
@@ -176,6 +181,6 @@ pub fn refusal_turn(draft: Draft, tally: Tally) -> Tally {
     let all: &[u8] = &bad;
     let body = first(all, hurt.length);
     let t = broken_turn(body, first(whole, n), tally);
-    let file = written(body, hurt.length / 10, draft.dice);
+    let file = written(body, hurt.length / RECORD_SIZE, draft.dice);
     held(seen(t, file.refusal), file.agree)
 }

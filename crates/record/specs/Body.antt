@@ -1,10 +1,10 @@
 -- The body: its records, the trace that it stands for, and the refusals that every call shares.
 use Prim.Native.Nat.{ℕ, zero, suc, _+_, _*_, _/_, _%_, _<_}
-use mathlib.Core.Bool.{Bool, true, false, not, _&&_, cond}
+use mathlib.Core.Bool.{Bool, _&&_, cond}
 use mathlib.Core.List.{List, [], _∷_, _++_}
 use lib.Dec.{ltb, leb, eqb}
 use lib.ListN.{length, take, drop}
-use Rattle.machine.specs.Test.{every, none}
+use Rattle.machine.specs.Test.{none}
 use Rattle.machine.specs.Instruction.{Trace}
 use Rattle.machine.specs.State.{maxInstructions}
 use Rattle.record.specs.Refusal.{_then_, _unless_, brokenRecord, outOfRange, wrongLength, unknownFlag}

@@ -49,7 +49,7 @@ pub struct Read {
     pub fields: Fields,
 }
 
-// How many records a body has, for one whose length was checked.
+// How many records a body has, where its length was checked.
 pub fn count(body: &[u8]) -> u32
     requires { ⌜ records (now body) ≤ maxInstructions ⌝ }
     ensures { λ r. ⌜ r ≡ records (now (body .entry)) ⌝ }

@@ -1,4 +1,5 @@
-// Writing a record: the only place that knows where each field goes.
+// A record written into a lent body, field by field as layout.rt reads it. An inner function: the
+// caller knows that record k is there and that each field fits.
 ghost use mathlib.Core.Path.{_≡_};
 ghost use Prim.Native.Nat.{_<_};
 ghost use Rattle.record.specs.Layout.{Fits, recordBytes};

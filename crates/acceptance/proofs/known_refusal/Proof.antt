@@ -44,15 +44,31 @@ loop-less c = omega arith
 
 loop-again : tie.Need-loop-again Inv-loop μ-loop
 unfolding breaksAt unknownAt
-loop-again c = (omega arith, none-more _ _ (c .before .before .before .before .loop .inv .1) (sym (c .before .before .breaks-rules .ensures) ∙ c .before .if1 .left), none-joined _ _ (c .before .before .before .before .loop .unknown) (c .unknown-from .result) (c .before .before .before .before .loop .inv .2) (c .unknown-from .ensures))
+loop-again c =
+    let loop = c .before .before .before .before in
+    let lawful = sym (c .before .before .breaks-rules .ensures) ∙ c .before .if1 .left in (
+      omega arith,
+      none-more _ _ (loop .loop .inv .1) lawful,
+      none-joined _ _ (loop .loop .unknown) (c .unknown-from .result) (loop .loop .inv .2) (c .unknown-from .ensures),
+    )
 
 returns-2 : tie.Need-returns-2 Inv-loop μ-loop
 unfolding recordRefusal unknownRefusal
-returns-2 c = go-on (scan-passed _ _ _ _ (c .before .before .loop .inv .1) (omega arith) (omega arith)) refl (scan-found _ _ _ _ (c .before .before .loop .inv .2 ∙ ap not (c .if2 .taken)) (omega arith) (omega arith))
+returns-2 c =
+    let loop = c .before .before in
+    go-on
+    (scan-passed _ _ _ _ (loop .loop .inv .1) (omega arith) (omega arith))
+    refl
+    (scan-found _ _ _ _ (loop .loop .inv .2 ∙ ap not (c .if2 .taken)) (omega arith) (omega arith))
 
 returns-3 : tie.Need-returns-3 Inv-loop μ-loop
 unfolding recordRefusal unknownRefusal
-returns-3 c = go-on (scan-passed _ _ _ _ (c .before .before .loop .inv .1) (omega arith) (omega arith)) refl (scan-passed _ _ _ _ (c .before .before .loop .inv .2 ∙ ap not (c .if2 .left)) (omega arith) (omega arith))
+returns-3 c =
+    let loop = c .before .before in
+    go-on
+    (scan-passed _ _ _ _ (loop .loop .inv .1) (omega arith) (omega arith))
+    refl
+    (scan-passed _ _ _ _ (loop .loop .inv .2 ∙ ap not (c .if2 .left)) (omega arith) (omega arith))
 
 pub known-refusal-spec : {M : Type 1} → statement M
 known-refusal-spec =

@@ -16,8 +16,8 @@ rolled-requires c κs = tt
 part-requires : tie.Need-part-requires Inv-loop μ-loop
 part-requires c κs = tt
 
-cast-n : tie.Need-cast-n Inv-loop μ-loop
-cast-n c = omega arith
+cast-t8 : tie.Need-cast-t8 Inv-loop μ-loop
+cast-t8 c = omega arith
 
 loop-holds : tie.Need-loop-holds Inv-loop μ-loop
 loop-holds c = omega arith
@@ -45,7 +45,7 @@ trace-spec =
     μ-loop
     rolled-requires
     part-requires
-    cast-n
+    cast-t8
     loop-holds
     with-record-requires
     add-k

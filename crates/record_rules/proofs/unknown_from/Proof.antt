@@ -1,8 +1,8 @@
 -- `unknown_from` meets its contract: within the rules a flag above 1 is unknown.
 use Rattle.record.proofs.Within.{within, sized, unknown-is}
 use borrow.Author.Needs.{needs}
-use Rattle.acceptance.proofs.unknown_from.Statement.{statement}
-use Rattle.acceptance.proofs.unknown_from.Tie as tie
+use Rattle.record_rules.proofs.unknown_from.Statement.{statement}
+use Rattle.record_rules.proofs.unknown_from.Tie as tie
 
 fields-from-requires : tie.Need-fields-from-requires
 fields-from-requires c κs = search needs

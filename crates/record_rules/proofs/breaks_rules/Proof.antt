@@ -1,9 +1,9 @@
 -- `breaks_rules` meets its contract: the limits that depend on the kind are the rules.
 use native.Mathlib.Omega.{arith}
 use borrow.Author.Needs.{needs}
-use Rattle.acceptance.proofs.Limits.{limits}
-use Rattle.acceptance.proofs.breaks_rules.Statement.{statement}
-use Rattle.acceptance.proofs.breaks_rules.Tie as tie
+use Rattle.record_rules.proofs.Limits.{limits}
+use Rattle.record_rules.proofs.breaks_rules.Statement.{statement}
+use Rattle.record_rules.proofs.breaks_rules.Tie as tie
 
 add-byte-at : tie.Need-add-byte-at
 add-byte-at c = search needs
