@@ -12,9 +12,9 @@ use Rattle.machine.proofs.Connectives.{Value, passed, failed, value, clash, and
 use Rattle.machine.proofs.BySlots.{standing, goes, occupied, storeInMEM, nextIn, movesIn, movesAt, freeAt, moves-at, free-at, stageBefore, arrives, leaves, slotAfter, newSlot, stepBySlots}
 use Rattle.machine.proofs.Masks.{bits, maskOf, mask-bits, goes-post, occupied-post}
 use Rattle.moving.specs.declared.moving.Bits.{Bits}
-use Rattle.moving.specs.Bits.{bitsOf}
-use Rattle.starting.specs.Starts.{opens, opensAfter, starts}
-use Rattle.cycle.specs.Standstill.{stays, standstill}
+use Rattle.moving.specs.Inner.{bitsOf}
+use Rattle.starting.specs.Inner.{opens, opensAfter, starts}
+use Rattle.cycle.specs.Inner.{stays, standstill}
 use Rattle.cycle.proofs.Slots.{state-is}
 
 -- a test that another implies may be left out

@@ -1,1 +1,1 @@
-pub mod Standstill
+pub mod Inner

@@ -10,7 +10,7 @@ use Rattle.machine.proofs.Connectives.{Value, passed, failed, value}
 use Rattle.machine.proofs.Window.{lastCount}
 use Rattle.record.specs.declared.layout.Fields.{Fields}
 use Rattle.record.specs.Rules.{instructionOf}
-use Rattle.decode.specs.Access.{AccessLawful}
+use Rattle.decode.specs.Inner.{AccessLawful}
 use Rattle.decode.proofs.Joined.{both}
 
 -- equal instructions have equal counts

@@ -5,7 +5,7 @@ ghost use Prim.Native.Nat.{_+_};
 ghost use Rattle.machine.specs.Rules.{IF, MEM, ST, entry};
 ghost use Rattle.machine.proofs.Window.{lastCount};
 ghost use Rattle.record.specs.Rules.{instructionOf};
-ghost use Rattle.decode.specs.Access.{AccessLawful};
+ghost use Rattle.decode.specs.Inner.{AccessLawful};
 use crate::choice::choose;
 use crate::choice::less;
 use crate::kinds::access_misses;

@@ -8,7 +8,7 @@ use Rattle.machine.specs.Rules.{IF, EX, MEM, isStore, hits, entry, reads, misse
 use Rattle.machine.proofs.Window.{enterIF, enterID, enterEX, enterMEM, enterLast}
 use Rattle.record.specs.declared.layout.Fields.{Fields}
 use Rattle.record.specs.Rules.{instructionOf}
-use Rattle.entering.specs.Code.{windowOf}
+use Rattle.entering.specs.Inner.{windowOf}
 use Rattle.entering.specs.declared.stages.Window.{Window}
 
 -- The code first joins what is known early, so that only one sum and one choice wait for the time that is known last.

@@ -13,8 +13,8 @@ ghost use Rattle.machine.proofs.Window.{
   enterPost,
 };
 ghost use Rattle.record.specs.Rules.{instructionOf};
-ghost use Rattle.decode.specs.Access.{AccessLawful};
-ghost use Rattle.entering.specs.Code.{windowOf};
+ghost use Rattle.decode.specs.Inner.{AccessLawful};
+ghost use Rattle.entering.specs.Inner.{windowOf};
 use decode::access_misses;
 use decode::choose;
 use decode::count_in_if;

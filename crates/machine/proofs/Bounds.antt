@@ -9,7 +9,7 @@ use lib.ListN.{length, take}
 use Rattle.machine.specs.Test.{_and_}
 use Rattle.machine.specs.Instruction.{Instruction, Trace, instruction}
 use Rattle.machine.specs.Rules.{misses}
-use Rattle.machine.specs.Time.{bound}
+use Rattle.machine.specs.Time.{bound, mostCycles, maxTime}
 use Rattle.machine.specs.State.{maxInstructions}
 use Rattle.machine.proofs.Numbers.{by-age, sum, sum-mono}
 use Rattle.machine.proofs.Schedule.{Behaviour, Together, early, late, together, enters, done, starts, least}
@@ -119,7 +119,7 @@ pub record Limited (i : Instruction) : Type 0 where
   pub fetchLatency : i .fetchLatency ≤ 65535
   pub dataLatency : i .dataLatency ≤ 65535
 
-each-limited : (trace : Trace) → ((i : ℕ) → i < length trace → Limited (instruction trace i)) → bound trace ≤ 131331 * length trace
+each-limited : (trace : Trace) → ((i : ℕ) → i < length trace → Limited (instruction trace i)) → bound trace ≤ mostCycles * length trace
 unfolding bound
 each-limited [] h = omega arith
 each-limited (i ∷ trace) h =
@@ -127,5 +127,5 @@ each-limited (i ∷ trace) h =
     let q : Limited i = h 0 (omega arith) in
     omega arith
 
-pub bound-limited : (trace : Trace) → length trace ≤ maxInstructions → ((i : ℕ) → i < length trace → Limited (instruction trace i)) → bound trace ≤ 537931776
+pub bound-limited : (trace : Trace) → length trace ≤ maxInstructions → ((i : ℕ) → i < length trace → Limited (instruction trace i)) → bound trace ≤ maxTime
 bound-limited trace l h = let p = each-limited trace h in omega arith

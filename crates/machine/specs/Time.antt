@@ -1,15 +1,24 @@
 -- Finishing times, settlings, best and worst: document 01, "One cycle" and "Job file and instruction record".
-use Prim.Native.Nat.{ℕ, zero, suc, _+_}
+use Prim.Native.Nat.{ℕ, zero, suc, _+_, _*_}
 use mathlib.Core.Bool.{Bool, true, false}
 use mathlib.Core.List.{[], _∷_}
 use mathlib.Core.Path.{_≡_}
 use Rattle.machine.specs.Instruction.{Flag, hit, miss, unknown, Instruction, Trace}
 use Rattle.machine.specs.Rules.{after, allLeft}
+use Rattle.machine.specs.State.{maxInstructions}
 
 -- "the sum over all instructions of 6 plus the three latencies"
 unfoldable pub bound : Trace → ℕ
 bound [] = 0
 bound (i ∷ trace) = (6 + i .executionLatency + i .fetchLatency + i .dataLatency) + bound trace
+
+-- what an instruction adds at most, with an execution latency to 255, and fetch and data latencies to 65,535
+abbrev pub mostCycles : ℕ
+mostCycles = 6 + 255 + 65535 + 65535
+
+-- "so at most 537,931,776"
+abbrev pub maxTime : ℕ
+maxTime = mostCycles * maxInstructions
 
 -- the least number from t on at which the test passes, or t + more if it fails at the first `more` numbers
 unfoldable pub leastFrom : (ℕ → Bool) → ℕ → ℕ → ℕ

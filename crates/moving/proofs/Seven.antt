@@ -2,7 +2,7 @@
 use mathlib.Core.Bool.{Bool}
 use mathlib.Core.Path.{_≡_}
 use Rattle.machine.specs.Rules.{Stage, pre, IF, ID, EX, MEM, ST, WB}
-use Rattle.moving.specs.Bits.{bitsOf}
+use Rattle.moving.specs.Inner.{bitsOf}
 use Rattle.moving.specs.declared.moving.Bits.{Bits}
 
 pub bits-are

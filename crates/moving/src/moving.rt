@@ -6,7 +6,7 @@ ghost use Rattle.machine.proofs.Stages.{stageAt};
 ghost use Rattle.machine.proofs.BySlots.{movesAt, freeAt};
 ghost use Rattle.machine.proofs.Flow.{bit};
 ghost use Rattle.machine.proofs.Masks.{nextNumber, bitAt, bits, maskOf};
-ghost use Rattle.moving.specs.Bits.{bitsOf, bitOf};
+ghost use Rattle.moving.specs.Inner.{bitsOf, bitOf};
 use machine::stage::EX;
 use machine::stage::ID;
 use machine::stage::IF;

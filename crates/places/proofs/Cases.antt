@@ -7,7 +7,7 @@ use Rattle.machine.specs.Instruction.{Instruction}
 use Rattle.machine.specs.Rules.{IF, EX, MEM, ST, WB, isStore, entry}
 use Rattle.machine.proofs.Stages.{stageNumber}
 use Rattle.machine.proofs.Window.{Times, lastCount, placeAt}
-use Rattle.places.specs.Code.{numbered}
+use Rattle.places.specs.Inner.{numbered}
 use Rattle.places.specs.declared.places.Place.{Place}
 
 abbrev at : ℕ → ℕ → Place

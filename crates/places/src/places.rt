@@ -2,8 +2,8 @@
 ghost use mathlib.Core.Path.{_≡_};
 ghost use Rattle.machine.proofs.Window.{placeAt};
 ghost use Rattle.record.specs.Rules.{instructionOf};
-ghost use Rattle.schedule.specs.Code.{timesOf};
-ghost use Rattle.places.specs.Code.{numbered};
+ghost use Rattle.schedule.specs.Inner.{timesOf};
+ghost use Rattle.places.specs.Inner.{numbered};
 use decode::choose;
 use decode::count_in_if;
 use decode::count_in_last;

@@ -20,8 +20,8 @@ use Rattle.machine.proofs.RunStates.{stateAfter, run-stops-state}
 use Rattle.record.specs.Body.{Bytes, traceOf, settledRefusal}
 use Rattle.settling.proofs.Settled.{settled-already}
 use Rattle.running.specs.Run.{ranFor, runAnswer}
-use Rattle.seats.specs.Seating.{stateSeated}
-use Rattle.under_way.specs.Passing.{stateBelow, Stopped}
+use Rattle.seats.specs.Inner.{stateSeated}
+use Rattle.under_way.specs.Inner.{stateBelow, Stopped}
 use Rattle.under_way.specs.declared.seating.Fetched.{Fetched}
 use Rattle.running.specs.declared.running.Ran.{Ran}
 use Rattle.running.proofs.Stops.{ends-after-all, ends-unfetched, goes-on}

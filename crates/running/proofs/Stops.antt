@@ -14,9 +14,9 @@ use Rattle.machine.proofs.Finish.{stays-left}
 use Rattle.machine.proofs.Numbers.{Tri, less, equal, more, tri}
 use Rattle.machine.proofs.RunStates.{stateAfter, run-orderly, run-places}
 use Rattle.machine.proofs.Spots.{place-waiting, not-waiting}
-use Rattle.places.specs.Code.{numbered}
-use Rattle.seats.specs.Seating.{fetchedWith, slotWith, stateWith}
-use Rattle.under_way.specs.Passing.{stateBelow}
+use Rattle.places.specs.Inner.{numbered}
+use Rattle.seats.specs.Inner.{fetchedWith, slotWith, stateWith}
+use Rattle.under_way.specs.Inner.{stateBelow}
 use Rattle.under_way.proofs.RunState.{state-grows, state-ends}
 
 in-pre-adds-nothing : (k : ℕ) (s : State) → stateWith (numbered (record { stage = pre; count = 0 })) k s ≡ s

@@ -11,7 +11,7 @@ use lib.ListN.{length}
 use Rattle.machine.specs.Instruction.{Flag, Instruction, Trace, instruction}
 use Rattle.machine.specs.Rules.{isLoad, isStore}
 use Rattle.machine.specs.Test.{_or_}
-use Rattle.machine.specs.Time.{bound, settleFlag, settleInstruction, settle}
+use Rattle.machine.specs.Time.{bound, maxTime, settleFlag, settleInstruction, settle}
 use Rattle.machine.proofs.Bounds.{Limited, bound-limited}
 use Rattle.machine.proofs.Connectives.{clash}
 use Rattle.machine.proofs.Finish.{finish-bounded}
@@ -24,8 +24,9 @@ use Rattle.record.specs.Body.{Bytes, records, fieldsAt, traceOf, bodyRefusal, r
 use Rattle.record.proofs.Accepted.{few-records, fields-within}
 use Rattle.record.proofs.Instructions.{length-traceOf, instruction-traceOf}
 use Rattle.record.proofs.Within.{OneOf, Within}
-use Rattle.schedule.specs.Code.{maxTime, FinishWithin, Room}
-use Rattle.decode.specs.Access.{AccessLawful}
+use Rattle.schedule.specs.Claims.{FinishWithin}
+use Rattle.schedule.specs.Inner.{Room}
+use Rattle.decode.specs.Inner.{AccessLawful}
 use Rattle.decode.proofs.Numbers.{store-number}
 use Rattle.schedule.proofs.Pass.{pass-fits, pass-room, pass-times, pass-slides}
 use Rattle.settling.proofs.Settled.{length-settle, instruction-settle, bound-settle}

@@ -6,10 +6,10 @@ use Rattle.machine.specs.Rules.{MEM, isLoad, isStore, holdsFetches, entry}
 use Rattle.machine.proofs.Window as Theory
 use Rattle.record.specs.declared.layout.Fields.{Fields}
 use Rattle.record.specs.Rules.{instructionOf}
-use Rattle.entering.specs.Code.{windowOf}
+use Rattle.entering.specs.Inner.{windowOf}
 use Rattle.entering.specs.declared.stages.Window.{Window}
 use Rattle.entering.proofs.Steps.{sum-joins}
-use Rattle.schedule.specs.Code.{timesOf}
+use Rattle.schedule.specs.Inner.{timesOf}
 use Rattle.schedule.specs.declared.sliding.Times.{Times}
 
 -- the window slides

@@ -6,12 +6,12 @@ use native.Mathlib.Numerals.{add-one}
 use native.Mathlib.Omega.{arith}
 use lib.ListN.{length, take}
 use Rattle.machine.specs.Instruction.{Instruction, Trace, instruction}
-use Rattle.machine.specs.Time.{bound, finish}
+use Rattle.machine.specs.Time.{bound, maxTime, finish}
 use Rattle.machine.proofs.Bounds.{bound-take}
 use Rattle.machine.proofs.Window.{Window, Times, noWindow, timesFrom, slide, windowBefore, timesAt}
 use Rattle.machine.proofs.WindowBounds.{TimesWithin, times-fit}
 use Rattle.machine.proofs.WindowTimes.{window-starts, window-slides, window-finish}
-use Rattle.schedule.specs.Code.{maxTime, Room}
+use Rattle.schedule.specs.Inner.{Room}
 use Rattle.schedule.proofs.Room.{room}
 
 weaker : (m n : ℕ) (e : Times) → m ≤ n → TimesWithin m e → TimesWithin n e

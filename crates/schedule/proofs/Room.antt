@@ -7,7 +7,8 @@ use Rattle.machine.specs.Instruction.{Instruction}
 use Rattle.machine.specs.Rules.{IF, EX, MEM, entry}
 use Rattle.machine.proofs.Window.{Window, Times, enterIF, enterID, enterEX, enterMEM, enterLast, lastCount, enterPost, timesFrom}
 use Rattle.machine.proofs.WindowBounds.{TimesWithin}
-use Rattle.schedule.specs.Code.{maxTime, Room}
+use Rattle.machine.specs.Time.{maxTime}
+use Rattle.schedule.specs.Inner.{Room}
 
 module _ (w : Window) (i : Instruction) where
   abbrev e : Times

@@ -1,1 +1,2 @@
-pub mod Code
+pub mod Claims
+pub mod Inner

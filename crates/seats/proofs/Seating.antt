@@ -13,10 +13,10 @@ use Rattle.machine.specs.Instruction.{Instruction}
 use Rattle.machine.specs.Rules.{Stage, pre, IF, ID, EX, MEM, ST, WB, post, Place, isStore, entry}
 use Rattle.machine.proofs.Stages.{stageNumber}
 use Rattle.machine.proofs.Window.{Times, lastCount, placeAt}
-use Rattle.places.specs.Code.{numbered}
+use Rattle.places.specs.Inner.{numbered}
 use Rattle.places.specs.declared.places.Place as Code
 use Rattle.places.proofs.Cases.{in-post}
-use Rattle.seats.specs.Seating.{fetchedWith, slotWith, stateWith, slotOf, slotSeated, stateSeated, Seated, Rising}
+use Rattle.seats.specs.Inner.{fetchedWith, slotWith, stateWith, slotOf, slotSeated, stateSeated, Seated, Rising}
 
 -- a list written out element by element
 abbrev spelled : ℕ → List ℕ → List ℕ

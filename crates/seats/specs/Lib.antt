@@ -1,1 +1,1 @@
-pub mod Seating
+pub mod Inner

@@ -4,7 +4,7 @@ ghost use mathlib.Core.Bool.{true};
 ghost use Rattle.machine.specs.Instruction.{instruction};
 ghost use Rattle.record.specs.Rules.{instructionOf};
 ghost use Rattle.record.specs.Body.{traceOf};
-ghost use Rattle.standing.specs.Reads.{Reads};
+ghost use Rattle.standing.specs.Inner.{Reads};
 use machine::Slot;
 use machine::State;
 use record::Fields;

@@ -14,7 +14,7 @@ use Rattle.machine.proofs.BySlots.{holdsBack, heldBack}
 use Rattle.machine.proofs.Hazards.{pending, waitsFor}
 use Rattle.record.specs.declared.layout.Fields.{Fields}
 use Rattle.record.specs.Rules.{instructionOf}
-use Rattle.starting.specs.Starts.{pendingSlot}
+use Rattle.starting.specs.Inner.{pendingSlot}
 use Rattle.decode.proofs.Joined.{either-of, and-under}
 
 pub is-pending

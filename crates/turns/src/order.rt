@@ -5,7 +5,7 @@ ghost use Prim.Native.Nat.{_≤_};
 ghost use Rattle.machine.specs.Rules.{ST};
 ghost use Rattle.machine.specs.State.{younger};
 ghost use Rattle.machine.specs.declared.State.{State};
-ghost use Rattle.turns.specs.Turns.{turnOf, inOrder};
+ghost use Rattle.turns.specs.Inner.{turnOf, inOrder};
 use machine::Slot;
 use machine::State;
 

@@ -13,10 +13,10 @@ use Rattle.machine.proofs.Window.{Times, timesFrom, enterID, enterEX, enterMEM,
 use Rattle.machine.proofs.WindowPlaces.{window-place}
 use Rattle.record.specs.Body.{records, traceOf, bodyRefusal}
 use Rattle.record.proofs.Accepted.{few-records}
-use Rattle.places.specs.Code.{numbered}
+use Rattle.places.specs.Inner.{numbered}
 use Rattle.schedule.proofs.Accepted.{length-settled}
-use Rattle.seats.specs.Seating.{stateWith, stateSeated, slotSeated, Seated, Rising}
-use Rattle.under_way.specs.Passing.{Passed}
+use Rattle.seats.specs.Inner.{stateWith, stateSeated, slotSeated, Seated, Rising}
+use Rattle.under_way.specs.Inner.{Passed}
 use Rattle.under_way.proofs.RunState.{state-starts, state-grows}
 
 pub begins : (trace : Trace) (limit : ℕ) {seats : List ℕ} → seats ≡ replicate 13 0 → Passed trace limit 0 seats

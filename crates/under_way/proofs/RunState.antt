@@ -9,9 +9,9 @@ use Rattle.machine.specs.Instruction.{Trace}
 use Rattle.machine.specs.Rules.{Stage, pre, IF, ID, EX, MEM, ST, WB, post, Places, same}
 use Rattle.machine.specs.State.{start, fetchedBelow, occupantBelow, stateOf}
 use Rattle.machine.specs.declared.State.{State}
-use Rattle.places.specs.Code.{numbered}
-use Rattle.seats.specs.Seating.{fetchedWith, slotWith, stateWith}
-use Rattle.under_way.specs.Passing.{stateBelow}
+use Rattle.places.specs.Inner.{numbered}
+use Rattle.seats.specs.Inner.{fetchedWith, slotWith, stateWith}
+use Rattle.under_way.specs.Inner.{stateBelow}
 
 -- one more instruction at its stage: by computation in each of the eight cases
 grown : (k count : ℕ) (s : State) (stage : Stage) →

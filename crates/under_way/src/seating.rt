@@ -6,7 +6,7 @@ ghost use lib.ListN.{replicate};
 ghost use Rattle.machine.specs.Time.{settle};
 ghost use Rattle.record.specs.Rules.{flagOf};
 ghost use Rattle.record.specs.Body.{traceOf, bodyRefusal};
-ghost use Rattle.under_way.specs.Passing.{Stopped};
+ghost use Rattle.under_way.specs.Inner.{Stopped};
 use record::count;
 use schedule::no_window;
 use schedule::slide;

@@ -7,8 +7,8 @@ use Rattle.machine.proofs.BySlots.{storeInMEM}
 use Rattle.machine.specs.Rules.{isStore}
 use Rattle.machine.specs.Instruction.{Instruction}
 use Rattle.moving.specs.declared.moving.Bits.{Bits}
-use Rattle.moving.specs.Bits.{bitOf}
-use Rattle.starting.specs.Starts.{starts}
+use Rattle.moving.specs.Inner.{bitOf}
+use Rattle.starting.specs.Inner.{starts}
 use Rattle.cycle.proofs.Starts.{leaving-is, standstill-is, none-set}
 use Rattle.cycle.proofs.cycling.cycle.Statement.{statement}
 use Rattle.cycle.proofs.cycling.cycle.Tie as tie

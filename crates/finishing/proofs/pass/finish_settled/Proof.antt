@@ -8,7 +8,7 @@ use Rattle.machine.proofs.Window.{windowBefore}
 use Rattle.record.specs.Rules.{flagOf}
 use Rattle.record.specs.Body.{traceOf}
 use Rattle.record.proofs.Accepted.{few-records}
-use Rattle.entering.specs.Code.{windowOf}
+use Rattle.entering.specs.Inner.{windowOf}
 use Rattle.schedule.proofs.Accepted.{length-settled, turn-fits, turn-room, turn-slides}
 use Rattle.schedule.proofs.Pass.{pass-starts, pass-ends}
 use Rattle.finishing.proofs.pass.finish_settled.Statement.{statement}

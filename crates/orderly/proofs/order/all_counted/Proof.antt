@@ -6,7 +6,7 @@ use lib.Dec.{leb}
 use Rattle.machine.specs.declared.Slot.{Slot}
 use Rattle.machine.specs.Rules.{IF, EX, MEM, ST, entry}
 use Rattle.record.specs.Rules.{instructionOf}
-use Rattle.orderly.specs.Orderly.{countOf}
+use Rattle.orderly.specs.Inner.{countOf}
 use Rattle.decode.proofs.Entries.{entry-of}
 use Rattle.decode.proofs.Joined.{both-of, cond-under}
 use Rattle.orderly.proofs.order.all_counted.Statement.{statement}

@@ -2,7 +2,7 @@
 use Prim.Native.Nat.{ℕ}
 use mathlib.Core.Path.{sym, ap, _∙_}
 use Rattle.machine.specs.State.{orderly}
-use Rattle.turns.specs.Turns.{inOrder}
+use Rattle.turns.specs.Inner.{inOrder}
 use Rattle.decode.proofs.Joined.{both-of, nine}
 use Rattle.orderly.proofs.order.orderly.Statement.{statement}
 use Rattle.orderly.proofs.order.orderly.Tie as tie

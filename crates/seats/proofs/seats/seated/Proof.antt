@@ -1,6 +1,6 @@
 -- `seated` meets its contract: field by field what its callees promise.
 use borrow.Author.Needs.{needs}
-use Rattle.seats.specs.Seating.{stateSeated}
+use Rattle.seats.specs.Inner.{stateSeated}
 use Rattle.seats.proofs.seats.seated.Statement.{statement}
 use Rattle.seats.proofs.seats.seated.Tie as tie
 

@@ -3,7 +3,7 @@ use Prim.Native.Nat.{ℕ, _+_}
 use mathlib.Core.Path.{sym, ap}
 use lib.ListN.{getD}
 use borrow.Author.Needs.{needs}
-use Rattle.seats.specs.Seating.{slotOf, slotSeated}
+use Rattle.seats.specs.Inner.{slotOf, slotSeated}
 use Rattle.seats.proofs.Seating.{slot-filled}
 use Rattle.seats.proofs.seats.slot_at.Statement.{statement}
 use Rattle.seats.proofs.seats.slot_at.Tie as tie

@@ -3,7 +3,7 @@ use mathlib.Core.Path.{refl, sym}
 use native.Mathlib.Omega.{arith}
 use Rattle.machine.specs.Rules.{IF, ID, EX, MEM, ST, WB}
 use Rattle.machine.proofs.Connectives.{and-failed-l}
-use Rattle.starting.specs.Starts.{pendingIn}
+use Rattle.starting.specs.Inner.{pendingIn}
 use Rattle.moving.proofs.Seven.{bits-are}
 use Rattle.starting.proofs.Held.{is-pending}
 use Rattle.starting.proofs.hazards.pending_slots.Statement.{statement}

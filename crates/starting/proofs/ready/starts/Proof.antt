@@ -7,7 +7,7 @@ use Rattle.machine.specs.Test.{_and_}
 use Rattle.machine.proofs.Connectives.{and-true}
 use Rattle.machine.proofs.BySlots.{standing, heldBack, goes}
 use Rattle.machine.proofs.Hazards.{waitsFor}
-use Rattle.starting.specs.Starts.{opens, starts}
+use Rattle.starting.specs.Inner.{opens, starts}
 use Rattle.moving.proofs.Seven.{bits-are}
 use Rattle.starting.proofs.Held.{goes-free}
 use Rattle.decode.proofs.Joined.{both-of}

@@ -3,7 +3,7 @@ use Prim.Native.Nat.{ℕ, _+_}
 use mathlib.Core.Path.{refl, ap, ap₂, _∙_}
 use borrow.Author.Needs.{needs}
 use Rattle.machine.specs.State.{younger}
-use Rattle.turns.specs.Turns.{turnOf}
+use Rattle.turns.specs.Inner.{turnOf}
 use Rattle.decode.proofs.Joined.{both-of}
 use Rattle.turns.proofs.order.in_order.Statement.{statement}
 use Rattle.turns.proofs.order.in_order.Tie as tie

@@ -9,10 +9,10 @@ use Rattle.machine.proofs.Window.{windowBefore}
 use Rattle.record.specs.Rules.{flagOf}
 use Rattle.record.specs.Body.{Bytes, traceOf}
 use Rattle.record.proofs.Accepted.{few-records}
-use Rattle.entering.specs.Code.{windowOf}
+use Rattle.entering.specs.Inner.{windowOf}
 use Rattle.schedule.proofs.Accepted.{length-settled, turn-fits, turn-room, turn-times, turn-slides}
 use Rattle.schedule.proofs.Pass.{pass-starts}
-use Rattle.under_way.specs.Passing.{Passed}
+use Rattle.under_way.specs.Inner.{Passed}
 use Rattle.under_way.proofs.RunPass.{begins, waits, may-seat, passes}
 use Rattle.under_way.proofs.seating.pass.Statement.{statement}
 use Rattle.under_way.proofs.seating.pass.Tie as tie

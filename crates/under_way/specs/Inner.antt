@@ -8,7 +8,7 @@ use Rattle.machine.specs.Rules.{Places, pre, IF, ID, EX, MEM, ST, WB, after}
 use Rattle.machine.specs.State.{fetchedBelow, occupantBelow}
 use Rattle.machine.specs.declared.State.{State}
 use Rattle.machine.proofs.Window.{windowBefore}
-use Rattle.seats.specs.Seating.{Seated}
+use Rattle.seats.specs.Inner.{Seated}
 use Rattle.under_way.specs.declared.seating.Fetched.{Fetched}
 
 -- the state that the places of the first k instructions give

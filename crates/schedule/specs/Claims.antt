@@ -1,0 +1,11 @@
+-- The bound on finishing times as a number, for accepted bodies: document 01, "One cycle".
+use Prim.Native.Nat.{ℕ, _≤_}
+use mathlib.Core.List.{List}
+use mathlib.Core.Path.{_≡_}
+use Rattle.machine.specs.Instruction.{Flag}
+use Rattle.machine.specs.Time.{maxTime, finish, settle}
+use Rattle.record.specs.Body.{Bytes, traceOf, bodyRefusal}
+
+-- no accepted trace finishes later, with its unknown flags all hits or all misses
+abbrev pub FinishWithin : Type 0
+FinishWithin = (body : List ℕ) → Bytes body → bodyRefusal body ≡ 0 → (to : Flag) → finish (settle to (traceOf body)) ≤ maxTime
