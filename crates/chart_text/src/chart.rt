@@ -13,8 +13,8 @@ ghost use Rattle.chart_text.specs.Chart.{
 };
 ghost use Rattle.chart_text.specs.Chart.{timesText};
 use crate::rows::put_rows;
-use job::cut;
 use job::locate;
+use parts::cut;
 use text::put_byte;
 use text::put_decimal;
 use text::put_text;

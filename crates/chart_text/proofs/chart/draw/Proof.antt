@@ -13,7 +13,7 @@ use Rattle.chart_text.proofs.chart.draw.Reads as reads
 use Rattle.chart_text.proofs.chart.draw.Lts as lts
 use Rattle.chart_text.proofs.chart.draw_body.Reads as draw-body-reads
 use Rattle.chart_text.proofs.chart.draw_refusal.Reads as draw-refusal-reads
-use Rattle.job.proofs.cut.Reads as cut-reads
+use Rattle.parts.proofs.cut.Reads as cut-reads
 use Rattle.job.proofs.locate.Reads as locate-reads
 
 returns : tie.Need-returns
