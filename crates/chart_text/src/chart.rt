@@ -14,8 +14,8 @@ use chart_lines::draw_refusal;
 use chart_lines::put_header;
 use chart_lines::put_times;
 use chart_rows::put_rows;
-use job::cut;
 use job::locate;
+use parts::cut;
 use timing::best_worst;
 
 // Room for any chart: the header, 1,001 rows and the last line, each number taken as ten digits.

@@ -15,7 +15,7 @@ use Rattle.record.specs.Body.{recordRefusal}
 use Rattle.job.specs.Refusal.{wrongEnd, firstRefusal}
 use Rattle.job.specs.Layout.{traces, maxTraces, entryAt, offsetAt, countAt, maxCount, maxFile, startAt, bodyAt}
 use Rattle.job.specs.Open.{entryRefusal, tableRefusal, entriesRefusal, tracesRefusal, fileRefusal, openRefusal, openBody, boundsAt, locateAnswer}
-use Rattle.job.specs.declared.bodies.Bounds.{Bounds}
+use Rattle.job.specs.declared.table.Bounds.{Bounds}
 use Rattle.job.proofs.First.{first-at}
 use Rattle.job.proofs.Entries.{entry-count, entry-at, start-suc}
 use Rattle.job.proofs.Joined.{joined, body-inside}

@@ -18,7 +18,7 @@ use Rattle.record.specs.Body.{lengthRefusal, recordRefusal, bodyRefusal}
 use Rattle.record.proofs.Refusals.{then-first, then-second, then-none, unless-passed}
 use Rattle.job.specs.Layout.{traces, countAt, startAt, bodyAt}
 use Rattle.job.specs.Open.{tracesRefusal, fileRefusal, openRefusal, openBody, boundsAt, locateAnswer, partOf}
-use Rattle.job.specs.declared.bodies.Bounds.{Bounds}
+use Rattle.job.specs.declared.table.Bounds.{Bounds}
 use Rattle.job.specs.declared.table.Located.{Located}
 use Rattle.job.proofs.Accepted.{file-fine, open-accepted}
 use Rattle.job.proofs.Entries.{start-suc}

@@ -8,7 +8,7 @@ use Rattle.record.specs.Refusal.{_then_, _unless_, outOfRange}
 use Rattle.record.specs.Body.{recordRefusal}
 use Rattle.job.specs.Refusal.{tooLong, tooShort, tooManyTraces, cutTable, largeCount, wrongOffset, wrongEnd, firstRefusal}
 use Rattle.job.specs.Layout.{headerSize, maxTraces, traces, maxCount, entryAt, offsetAt, countAt, maxFile, startAt, bodyAt}
-use Rattle.job.specs.declared.bodies.Bounds.{Bounds}
+use Rattle.job.specs.declared.table.Bounds.{Bounds}
 use Rattle.job.specs.declared.table.Located.{Located}
 
 -- "Then entry by entry, 5 count above 4,096, 6 wrong offset."

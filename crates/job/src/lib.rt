@@ -1,10 +1,7 @@
 // The job file: its checks, and where a trace's body stands in it.
-pub mod bodies;
-pub mod parts;
 pub mod refusal;
 pub mod table;
 
-pub use parts::cut;
 pub use table::Located;
 pub use table::file_refusal;
 pub use table::locate;

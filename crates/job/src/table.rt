@@ -1,15 +1,15 @@
 // Finding a trace's body in a job file, after every check of the file.
 ghost use mathlib.Core.Path.{_≡_};
-ghost use Prim.Native.Nat.{_+_, _*_, _≤_};
+ghost use Prim.Native.Nat.{_+_, _*_, _<_, _≤_};
 ghost use lib.ListN.{length};
 ghost use Rattle.job.specs.Layout.{traces, maxTraces, startAt};
 ghost use Rattle.job.specs.Open.{
   tableRefusal,
   entriesRefusal,
   fileRefusal,
+  boundsAt,
   locateAnswer,
 };
-use crate::bodies::bounds_of;
 use crate::refusal::CUT_TABLE;
 use crate::refusal::LARGE_COUNT;
 use crate::refusal::TOO_LONG;
@@ -36,6 +36,12 @@ pub const MAX_TRACES: u32 = 16;
 pub const RECORD_BYTES: u32 = RECORD_SIZE as u32;
 
 // Where a body starts and ends in its file.
+pub struct Bounds {
+    pub start: usize,
+    pub end: usize,
+}
+
+// A refusal's number and zeros, or 0 and the bounds.
 #[repr(C)]
 pub struct Located {
     pub refusal: u32,
@@ -114,6 +120,20 @@ pub fn file_refusal(file: &[u8]) -> u32
     }
     let first = (HEADER_SIZE + ENTRY_SIZE * count) as usize;
     record_refusal(&file[first..])
+}
+
+// For callers that have checked the file; no call of the engine's.
+pub fn bounds_of(file: &[u8], trace: u32) -> Bounds
+    requires { ⌜ (fileRefusal (now file) ≡ 0) × (trace < traces (now file)) ⌝ }
+    ensures { λ r. ⌜ r ≡ boundsAt (now (file .entry)) trace ⌝ }
+{
+    let at = HEADER_SIZE + ENTRY_SIZE * trace;
+    let start = word(file, at);
+    let end = start + RECORD_BYTES * half(file, at + COUNT_IN_ENTRY);
+    Bounds {
+        start: start as usize,
+        end: end as usize,
+    }
 }
 
 pub fn locate(file: &[u8], trace: u32) -> Located

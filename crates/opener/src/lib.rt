@@ -3,8 +3,8 @@ ghost use mathlib.Core.Path.{_≡_};
 ghost use Rattle.record.specs.Part.{StartsAt};
 ghost use Rattle.job.specs.Layout.{startAt};
 ghost use Rattle.job.specs.Open.{openRefusal, openBody};
-use job::cut;
 use job::locate;
+use parts::cut;
 
 pub mod inner;
 

@@ -14,7 +14,11 @@ use Rattle.report_lines.specs.Lines.{signedText, marginText, column, lin
 use Rattle.report_figures.specs.declared.Line.{Line}
 
 -- where a text of a known width ends
-pub ends : (at width : ℕ) (text before : List ℕ) {afterwards : List ℕ} {end : ℕ} → length text ≡ width → Wrote at text before afterwards end → (end ≡ at + width) × Wrote at text before afterwards end
+pub ends
+    : (at width : ℕ) (text before : List ℕ) {afterwards : List ℕ} {end : ℕ} →
+    length text ≡ width →
+    Wrote at text before afterwards end →
+    (end ≡ at + width) × Wrote at text before afterwards end
 ends at width text before e wrote = (wrote .0 ∙ ap (λ (n : ℕ). at + n) e, wrote)
 
 -- the difference of two numbers, by their order

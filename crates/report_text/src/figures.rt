@@ -4,7 +4,7 @@ ghost use Prim.Native.Nat.{_<_};
 ghost use Rattle.job.specs.Layout.{traces};
 ghost use Rattle.job.specs.Open.{fileRefusal};
 ghost use Rattle.report_text.specs.Report.{deadlineAt, lineAt};
-use job::bodies::body_of;
+use parts::body_of;
 use report_figures::Line;
 use report_figures::line_of;
 

@@ -26,7 +26,7 @@ pub extern "C" fn sic_open(file: &[u8], trace: u32) -> Part
     ensures { λ r. ⌜ (r ≡ openPart (now (file .entry)) trace) × (take (r .length) (drop (r .start) (now (file .entry))) ≡ openBody (now (file .entry)) trace) ⌝ }
 {
     let found = job::locate(file, trace);
-    let body = job::cut(file, found.start, found.end);
+    let body = parts::cut(file, found.start, found.end);
     Part {
         refusal: found.refusal,
         start: found.start,

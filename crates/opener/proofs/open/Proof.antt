@@ -52,10 +52,10 @@ use Rattle.job.proofs.locate as locate
 use Rattle.job.proofs.locate.Symbol as locate-def
 use Rattle.job.proofs.locate.Symbol.{name as #job·locate}
 use Rattle.job.proofs.locate.Met as locate-thm
-use Rattle.job.proofs.cut as cut
-use Rattle.job.proofs.cut.Symbol as cut-def
-use Rattle.job.proofs.cut.Symbol.{name as #job·cut}
-use Rattle.job.proofs.cut.Met as cut-thm
+use Rattle.parts.proofs.cut as cut
+use Rattle.parts.proofs.cut.Symbol as cut-def
+use Rattle.parts.proofs.cut.Symbol.{name as #parts·cut}
+use Rattle.parts.proofs.cut.Met as cut-thm
 use Rattle.opener.proofs.open.Key.{name as #opener·open}
 use Rattle.opener.proofs.open as opening
 use Rattle.opener.proofs.open.Statement as stated
@@ -142,7 +142,7 @@ module _ {M : Type 1} (𝓤 : URA M) (H : Heap 𝓤) (A : Atoms 𝓤) (W : Given
       -- [what the body owns]: with the facts of the refusal it is what the result owns
       nothing ! $ move ! (1 ∷ 0 ∷ []) $ fjoin ! $ owned ! u32 (Is u32) (uint-makes 𝓤 H A W w32) (l .refusal) _ (refl, fits) $ fjoin ! $ by ! (own-shut 𝓤 H A W (T.the-type α) (T′.the-laws α) (l .refusal, (b, tt)))
 
-  module _ (C : Calls 𝓤 H) (Λ : Loops 𝓤 H) (fm : FmC 𝓤 H (W .laws) C) (known-locate : Triple 𝓤 (C #job·locate) (Locate 𝓤 H A mem run)) (known-cut : Triple 𝓤 (C #job·cut) (Cut 𝓤 H A mem run)) where
+  module _ (C : Calls 𝓤 H) (Λ : Loops 𝓤 H) (fm : FmC 𝓤 H (W .laws) C) (known-locate : Triple 𝓤 (C #job·locate) (Locate 𝓤 H A mem run)) (known-cut : Triple 𝓤 (C #parts·cut) (Cut 𝓤 H A mem run)) where
     walk : Is Slice s (v s ∷ []) → ent 𝓤 (onEntry 𝓤 H A opening.signature (κ, tt) (q, tt) (s, (n, tt)) at) (WpFn 𝓤 H C Λ code.function (v s ∷ vint w32 n ∷ []) Post)
     walk p =
         qed W (raw (onEntry 𝓤 H A opening.signature (κ, tt) (q, tt) (s, (n, tt)) at) ∷ []) ∵ enter ! C Λ code.function (v s ∷ vint w32 n ∷ []) _ $
@@ -173,13 +173,13 @@ module _ {M : Type 1} (𝓤 : URA M) (H : Heap 𝓤) (A : Atoms 𝓤) (W : Given
         by ! (exits l b (LL.owed L.the-type L′.the-laws l _ is .0 .1) (located (now s) n l e .0, e′ .0 ∙ located (now s) n l e .1, placed s b n l e (e′ .1))))))))))))))))
 
 module _ {M : Type 1} (𝓤 : URA M) (H : Heap 𝓤) (A : Atoms 𝓤) (W : Given 𝓤 H A) (mem : Memory → SProp 𝓤) (run : Routine → Fun 𝓤) where
-  open-walks : (C : Calls 𝓤 H) (Λ : Loops 𝓤 H) → FmC 𝓤 H (W .laws) C → Triple 𝓤 (C #job·locate) (Locate 𝓤 H A mem run) → Triple 𝓤 (C #job·cut) (Cut 𝓤 H A mem run)
+  open-walks : (C : Calls 𝓤 H) (Λ : Loops 𝓤 H) → FmC 𝓤 H (W .laws) C → Triple 𝓤 (C #job·locate) (Locate 𝓤 H A mem run) → Triple 𝓤 (C #parts·cut) (Cut 𝓤 H A mem run)
       → Walks 𝓤 H A opening.ended stayed (WpFn 𝓤 H C Λ code.function) (opening.clauses 𝓤 H A mem run)
   open-walks C Λ fm known-locate known-cut = walked 𝓤 H A opening.ended stayed (opening.clauses 𝓤 H A mem run) (WpFn 𝓤 H C Λ code.function) (λ κs. (slice-vals, (uint-vals w32, tt))) (λ κs. (shr-slice-tells (named 0) (κs .0) u8, (uint-tells w32, tt)))
       (λ κs qs bounds a g are. via 𝓤 _ (fst∗ 𝓤 _ (emp 𝓤)) (walk 𝓤 H A W mem run (κs .0) (qs .0) (a .0) (a .1 .0) (are .1 .0 .1) C Λ fm known-locate known-cut (are .0)))
 
 open-meets : {M : Type 1} (𝓤 : URA M) (H : Heap 𝓤) (A : Atoms 𝓤) (W : Given 𝓤 H A) (mem : Memory → SProp 𝓤) (run : Routine → Fun 𝓤) (𝓣 : Tables 𝓤 H)
-    → Triple 𝓤 (𝓣 .C #job·locate) (Locate 𝓤 H A mem run) → Triple 𝓤 (𝓣 .C #job·cut) (Cut 𝓤 H A mem run)
+    → Triple 𝓤 (𝓣 .C #job·locate) (Locate 𝓤 H A mem run) → Triple 𝓤 (𝓣 .C #parts·cut) (Cut 𝓤 H A mem run)
     → Meets 𝓤 H A opening.signature (WpFn 𝓤 H (𝓣 .C) (𝓣 .Λ) code.function) (opening.spec 𝓤 H A mem run)
 open-meets 𝓤 H A W mem run 𝓣 known-locate known-cut =
     walk-meets 𝓤 H A opening.ended stayed W (goes-none-slice 𝓤 H A W 1 (0 ∷ []) tt (plain (λ _. u8)) yes, (goes-none 𝓤 H A W 1 (λ _. u32) yes (λ κs x f. refl), tt)) (opening.clauses 𝓤 H A mem run)
@@ -192,4 +192,4 @@ open-spec 𝓤 H 𝓜 𝓖 𝓡 =
     (tables 𝓤 H 𝓜 𝓡 code.env .C) (tables 𝓤 H 𝓜 𝓡 code.env .Λ) #opener·open code.function (code.unfolded 𝓤 H 𝓜 𝓡)
     (open-meets 𝓤 H (𝓖 .A) (givenOf 𝓤 H 𝓜 𝓖) (𝓜 .mem) (𝓡 .run) (tablesOf 𝓤 H 𝓜 (tables 𝓤 H 𝓜 𝓡 code.env))
     (cited 𝓤 H (Locate 𝓤 H (𝓖 .A) (𝓜 .mem) (𝓡 .run)) 𝓜 𝓡 code.env #job·locate locate-def.routine code.calls-job·locate (locate-thm.met 𝓤 H 𝓜 𝓖 𝓡))
-    (cited 𝓤 H (Cut 𝓤 H (𝓖 .A) (𝓜 .mem) (𝓡 .run)) 𝓜 𝓡 code.env #job·cut cut-def.routine code.calls-job·cut (cut-thm.met 𝓤 H 𝓜 𝓖 𝓡)))
+    (cited 𝓤 H (Cut 𝓤 H (𝓖 .A) (𝓜 .mem) (𝓡 .run)) 𝓜 𝓡 code.env #parts·cut cut-def.routine code.calls-parts·cut (cut-thm.met 𝓤 H 𝓜 𝓖 𝓡)))

@@ -17,7 +17,10 @@ add-result : tie.Need-add-result
 add-result c = search needs
 
 returns : tie.Need-returns
-returns c = (omega (arith, c .before .unknown-of .ensures .0, c .unknown-of2 .ensures .0), omega (arith, c .before .unknown-of .ensures .1, c .unknown-of2 .ensures .1))
+returns c = (
+  omega (arith, c .before .unknown-of .ensures .0, c .unknown-of2 .ensures .0),
+  omega (arith, c .before .unknown-of .ensures .1, c .unknown-of2 .ensures .1),
+)
 
 pub unknowns-of-spec : {M : Type 1} → statement M
 unknowns-of-spec =

@@ -19,7 +19,12 @@ same-length : tie.Need-same-length
 same-length c = search needs
 
 returns : tie.Need-returns
-returns c = let a = c .before .before .before .before .before .before .args in ends (a .at) 11 _ (a .out .now) (margin-width (a .deadline) (a .worst)) (as-text _ _ (ap (right 11) (margin-none (a .deadline) (a .worst) (c .before .before .before .before .if1 .taken))) (c .before .before .put-right .ensures))
+returns c =
+    let c₄ = c .before .before .before .before in
+    let c₆ = c₄ .before .before in
+    let a = c₆ .args in
+    ends (a .at) 11 _ (a .out .now) (margin-width (a .deadline) (a .worst))
+    (as-text _ _ (ap (right 11) (margin-none (a .deadline) (a .worst) (c₄ .if1 .taken))) (c .before .before .put-right .ensures))
 
 sub-put-signed : tie.Need-sub-put-signed
 sub-put-signed c = search needs
@@ -31,7 +36,12 @@ same-length-2 : tie.Need-same-length-2
 same-length-2 c = search needs
 
 returns-2 : tie.Need-returns-2
-returns-2 c = let a = c .before .before .before .before .before .before .before .args in ends (a .at) 11 _ (a .out .now) (margin-width (a .deadline) (a .worst)) (as-text _ _ (ap (right 11) (margin-over (a .deadline) (a .worst) (c .before .before .before .before .if2 .taken))) (c .before .before .put-signed .ensures))
+returns-2 c =
+    let c₄ = c .before .before .before .before in
+    let c₇ = c₄ .before .before .before in
+    let a = c₇ .args in
+    ends (a .at) 11 _ (a .out .now) (margin-width (a .deadline) (a .worst))
+    (as-text _ _ (ap (right 11) (margin-over (a .deadline) (a .worst) (c₄ .if2 .taken))) (c .before .before .put-signed .ensures))
 
 put-signed-requires-2 : tie.Need-put-signed-requires-2
 put-signed-requires-2 c κs = search needs
@@ -40,7 +50,14 @@ same-length-3 : tie.Need-same-length-3
 same-length-3 c = search needs
 
 returns-3 : tie.Need-returns-3
-returns-3 c = let a = c .before .before .before .before .before .before .before .args in ends (a .at) 11 _ (a .out .now) (margin-width (a .deadline) (a .worst)) (as-text _ _ (ap (right 11) (margin-under (a .deadline) (a .worst) (omega (arith, c .before .before .before .before .if2 .left, c .before .before .before .before .before .if1 .left)))) (c .before .before .put-signed2 .ensures))
+returns-3 c =
+    let c₄ = c .before .before .before .before in
+    let c₅ = c₄ .before in
+    let c₇ = c₅ .before .before in
+    let a = c₇ .args in
+    ends (a .at) 11 _ (a .out .now) (margin-width (a .deadline) (a .worst))
+    (as-text _ _ (ap (right 11) (margin-under (a .deadline) (a .worst) (omega (arith, c₄ .if2 .left, c₅ .if1 .left))))
+    (c .before .before .put-signed2 .ensures))
 
 pub put-margin-spec : {M : Type 1} → statement M
 put-margin-spec =

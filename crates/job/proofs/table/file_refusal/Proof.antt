@@ -31,18 +31,31 @@ half-requires : tie.Need-half-requires
 half-requires c κs = search needs
 
 entries-of-requires : tie.Need-entries-of-requires
-entries-of-requires c κs = let fine = table-fine _ (sym (c .before .before .table-refusal .ensures) ∙ c .before .if1 .left) in (c .half .ensures .0, rw (c .half .ensures .0) (fine .few))
+entries-of-requires c κs =
+    let fine = table-fine _ (sym (c .before .before .table-refusal .ensures) ∙ c .before .if1 .left) in
+    (c .half .ensures .0, rw (c .half .ensures .0) (fine .few))
 
 returns-2 : tie.Need-returns-2
 unfolding fileRefusal
-returns-2 c = go-on (c .before .before .before .before .before .table-refusal .ensures) (c .before .before .before .before .if1 .left) (stop _ (c .before .before .entries-of .ensures .0) (c .if2 .taken))
+returns-2 c =
+    let c₄ = c .before .before .before .before in
+    let c₅ = c₄ .before in
+    go-on (c₅ .table-refusal .ensures) (c₄ .if1 .left) (stop _ (c .before .before .entries-of .ensures .0) (c .if2 .taken))
 
 cast-if3 : tie.Need-cast-if3
 cast-if3 c = search needs
 
 returns-3 : tie.Need-returns-3
 unfolding fileRefusal _then_ _unless_
-returns-3 c = go-on (c .before .before .before .before .before .before .before .table-refusal .ensures) (c .before .before .before .before .before .before .if1 .left) (go-on (c .before .before .before .before .entries-of .ensures .0) (c .before .before .if2 .left) (rw (ne-eqb _ _ (λ e. c .if3 .taken (e ∙ ap (startAt (c .before .before .before .before .before .before .before .before .before .args .file .now)) (sym (c .before .before .before .before .before .half .ensures .0)) ∙ sym (c .before .before .before .before .entries-of .ensures .1 (c .before .before .if2 .left)))))))
+returns-3 c =
+    let c₄ = c .before .before .before .before in
+    let c₅ = c₄ .before in
+    let c₆ = c₅ .before in
+    let c₇ = c₆ .before in
+    let c₉ = c₇ .before .before in
+    go-on (c₇ .table-refusal .ensures) (c₆ .if1 .left) (go-on (c₄ .entries-of .ensures .0) (c .before .before .if2 .left) (rw (ne-eqb _ _ (λ e.
+    c .if3 .taken
+    (e ∙ ap (startAt (c₉ .args .file .now)) (sym (c₅ .half .ensures .0)) ∙ sym (c₄ .entries-of .ensures .1 (c .before .before .if2 .left)))))))
 
 mul-first : tie.Need-mul-first
 mul-first c = search needs
@@ -54,10 +67,22 @@ cast-first : tie.Need-cast-first
 cast-first c = search needs
 
 sub-record-refusal : tie.Need-sub-record-refusal
-sub-record-refusal c = let fine : TableFine (c .before .before .before .before .before .before .before .before .before .args .file .now) = table-fine _ (sym (c .before .before .before .before .before .before .before .table-refusal .ensures) ∙ c .before .before .before .before .before .before .if1 .left) in rw (c .before .before .before .before .before .half .ensures .0) (fine .whole)
+sub-record-refusal c =
+    let c₅ = c .before .before .before .before .before in
+    let c₆ = c₅ .before in
+    let c₇ = c₆ .before in
+    let c₉ = c₇ .before .before in
+    let fine : TableFine (c₉ .args .file .now) = table-fine _ (sym (c₇ .table-refusal .ensures) ∙ c₆ .if1 .left) in
+    rw (c₅ .half .ensures .0) (fine .whole)
 
 part-record-refusal-start : tie.Need-part-record-refusal-start
-part-record-refusal-start c = let fine : TableFine (c .before .before .before .before .before .before .before .before .before .args .file .now) = table-fine _ (sym (c .before .before .before .before .before .before .before .table-refusal .ensures) ∙ c .before .before .before .before .before .before .if1 .left) in rw (c .before .before .before .before .before .half .ensures .0) (fine .whole)
+part-record-refusal-start c =
+    let c₅ = c .before .before .before .before .before in
+    let c₆ = c₅ .before in
+    let c₇ = c₆ .before in
+    let c₉ = c₇ .before .before in
+    let fine : TableFine (c₉ .args .file .now) = table-fine _ (sym (c₇ .table-refusal .ensures) ∙ c₆ .if1 .left) in
+    rw (c₅ .half .ensures .0) (fine .whole)
 
 part-record-refusal-end : tie.Need-part-record-refusal-end
 part-record-refusal-end c = search needs
@@ -67,7 +92,18 @@ record-refusal-requires c κs = search needs
 
 returns-4 : tie.Need-returns-4
 unfolding fileRefusal
-returns-4 c = let fine : TableFine (c .before .before .before .before .before .before .before .before .before .before .before .args .file .now) = table-fine _ (sym (c .before .before .before .before .before .before .before .before .before .table-refusal .ensures) ∙ c .before .before .before .before .before .before .before .before .if1 .left) in go-on (c .before .before .before .before .before .before .before .before .before .table-refusal .ensures) (c .before .before .before .before .before .before .before .before .if1 .left) (go-on (c .before .before .before .before .before .before .entries-of .ensures .0) (c .before .before .before .before .if2 .left) (records-checked _ (c .before .before .before .before .before .before .before .half .result) _ fine (c .before .before .before .before .before .before .before .half .ensures .0) (c .before .before .if3 .left ∙ c .before .before .before .before .before .before .entries-of .ensures .1 (c .before .before .before .before .if2 .left) ∙ ap (startAt (c .before .before .before .before .before .before .before .before .before .before .before .args .file .now)) (c .before .before .before .before .before .before .before .half .ensures .0)) (c .record-refusal .ensures)))
+returns-4 c =
+    let c₄ = c .before .before .before .before in
+    let c₆ = c₄ .before .before in
+    let c₇ = c₆ .before in
+    let c₈ = c₇ .before in
+    let c₉ = c₈ .before in
+    let c₁₁ = c₉ .before .before in
+    let fine : TableFine (c₁₁ .args .file .now) = table-fine _ (sym (c₉ .table-refusal .ensures) ∙ c₈ .if1 .left) in
+    go-on (c₉ .table-refusal .ensures) (c₈ .if1 .left)
+    (go-on (c₆ .entries-of .ensures .0) (c₄ .if2 .left) (records-checked _ (c₇ .half .result) _ fine (c₇ .half .ensures .0)
+    (c .before .before .if3 .left ∙ c₆ .entries-of .ensures .1 (c₄ .if2 .left) ∙ ap (startAt (c₁₁ .args .file .now)) (c₇ .half .ensures .0))
+    (c .record-refusal .ensures)))
 
 pub file-refusal-spec : {M : Type 1} → statement M
 file-refusal-spec =

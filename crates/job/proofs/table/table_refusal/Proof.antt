@@ -28,7 +28,9 @@ half-requires c κs = search needs
 
 returns-3 : tie.Need-returns-3
 unfolding tableRefusal _then_ _unless_
-returns-3 c = rw (le-leb _ _ (c .before .before .before .if1 .left), le-leb _ _ (c .before .before .if2 .left), ← c .before .half .ensures .0, lt-leb _ _ (c .if3 .taken))
+returns-3 c =
+    let c₃ = c .before .before .before in
+    rw (le-leb _ _ (c₃ .if1 .left), le-leb _ _ (c .before .before .if2 .left), ← c .before .half .ensures .0, lt-leb _ _ (c .if3 .taken))
 
 mul-if4 : tie.Need-mul-if4
 mul-if4 c = search needs
@@ -41,11 +43,29 @@ cast-if4 c = search needs
 
 returns-4 : tie.Need-returns-4
 unfolding tableRefusal _then_ _unless_
-returns-4 c = rw (le-leb _ _ (c .before .before .before .before .if1 .left), le-leb _ _ (c .before .before .before .if2 .left), ← c .before .before .half .ensures .0, le-leb _ _ (c .before .if3 .left), lt-leb _ _ (c .if4 .taken))
+returns-4 c =
+    let c₃ = c .before .before .before in
+    let c₄ = c₃ .before in
+    rw (
+      le-leb _ _ (c₄ .if1 .left),
+      le-leb _ _ (c₃ .if2 .left),
+      ← c .before .before .half .ensures .0,
+      le-leb _ _ (c .before .if3 .left),
+      lt-leb _ _ (c .if4 .taken),
+    )
 
 returns-5 : tie.Need-returns-5
 unfolding tableRefusal _then_ _unless_
-returns-5 c = rw (le-leb _ _ (c .before .before .before .before .if1 .left), le-leb _ _ (c .before .before .before .if2 .left), ← c .before .before .half .ensures .0, le-leb _ _ (c .before .if3 .left), le-leb _ _ (c .if4 .left))
+returns-5 c =
+    let c₃ = c .before .before .before in
+    let c₄ = c₃ .before in
+    rw (
+      le-leb _ _ (c₄ .if1 .left),
+      le-leb _ _ (c₃ .if2 .left),
+      ← c .before .before .half .ensures .0,
+      le-leb _ _ (c .before .if3 .left),
+      le-leb _ _ (c .if4 .left),
+    )
 
 pub table-refusal-spec : {M : Type 1} → statement M
 table-refusal-spec =

@@ -19,7 +19,13 @@ use Rattle.report_figures.proofs.met_by.Reads as met-by-reads
 use Rattle.report_lines.proofs.put_line.Reads as put-line-reads
 
 abbrev Inv-loop : tie.InvT-loop
-Inv-loop file deadlines out₀ at all end₀ met₀ t₀ out end met t = (t ≤ all) × (met ≡ metBelow file deadlines t) × (met ≤ t) × (length out ≡ length out₀) × (end ≡ at + 78 * t) × Wrote at (linesText file deadlines t) out₀ out end
+Inv-loop file deadlines out₀ at all end₀ met₀ t₀ out end met t =
+    (t ≤ all)
+    × (met ≡ metBelow file deadlines t)
+    × (met ≤ t)
+    × (length out ≡ length out₀)
+    × (end ≡ at + 78 * t)
+    × Wrote at (linesText file deadlines t) out₀ out end
 
 abbrev μ-loop : tie.MeasureT-loop
 μ-loop file deadlines out₀ at all end₀ met₀ t₀ out end met t = all - t
@@ -29,32 +35,74 @@ unfolding linesText metBelow
 loop-holds c = (omega arith, refl, omega arith, refl, omega arith, wrote-nothing _ _ (omega (arith, c .before .before .before .pre .2)))
 
 line-at-requires : tie.Need-line-at-requires Inv-loop μ-loop
-line-at-requires c κs = (c .before .before .before .before .before .pre .0, omega (arith, c .loop-test .taken, c .before .before .before .before .before .pre .1))
+line-at-requires c κs = let c₅ = c .before .before .before .before .before in (c₅ .pre .0, omega (arith, c .loop-test .taken, c₅ .pre .1))
 
 put-line-requires : tie.Need-put-line-requires Inv-loop μ-loop
-put-line-requires c κs = let a = c .before .before .before .before .before .before .before .args in let i = c .before .before .before .loop .inv in let small = line-small (a .file .now) (c .before .before .before .before .before .before .before .pre .0) (a .deadlines .now) (c .before .before .before .loop .t) (omega (arith, c .before .before .loop-test .taken, c .before .before .before .before .before .before .before .pre .1)) (c .before .line-at .ensures) in (small .0, small .1, omega (arith, i .3, i .4, c .before .before .loop-test .taken, c .before .before .before .before .before .before .before .pre .2))
+put-line-requires c κs =
+    let c₃ = c .before .before .before in
+    let c₇ = c₃ .before .before .before .before in
+    let a = c₇ .args in
+    let i = c₃ .loop .inv in
+    let small =
+    line-small (a .file .now) (c₇ .pre .0) (a .deadlines .now) (c₃ .loop .t) (omega (arith, c .before .before .loop-test .taken, c₇ .pre .1))
+    (c .before .line-at .ensures) in
+    (small .0, small .1, omega (arith, i .3, i .4, c .before .before .loop-test .taken, c₇ .pre .2))
 
 met-by-requires : tie.Need-met-by-requires Inv-loop μ-loop
 met-by-requires c κs = tt
 
 add-met : tie.Need-add-met Inv-loop μ-loop
-add-met c = omega (arith, c .before .before .before .before .before .before .before .loop .inv .2, c .met-by .ensures .1, c .before .before .before .before .before .before .loop-test .taken, few-traces _ (c .before .before .before .before .before .before .before .before .before .before .before .pre .0), c .before .before .before .before .before .before .before .before .before .before .before .pre .1)
+add-met c =
+    let c₆ = c .before .before .before .before .before .before in
+    let c₇ = c₆ .before in
+    let c₁₁ = c₇ .before .before .before .before in
+    omega (arith, c₇ .loop .inv .2, c .met-by .ensures .1, c₆ .loop-test .taken, few-traces _ (c₁₁ .pre .0), c₁₁ .pre .1)
 
 add-t : tie.Need-add-t Inv-loop μ-loop
-add-t c = omega (arith, c .before .before .before .before .before .before .loop-test .taken, few-traces _ (c .before .before .before .before .before .before .before .before .before .before .before .pre .0), c .before .before .before .before .before .before .before .before .before .before .before .pre .1)
+add-t c =
+    let c₆ = c .before .before .before .before .before .before in
+    let c₁₁ = c₆ .before .before .before .before .before in
+    omega (arith, c₆ .loop-test .taken, few-traces _ (c₁₁ .pre .0), c₁₁ .pre .1)
 
 loop-less : tie.Need-loop-less Inv-loop μ-loop
 loop-less c = omega (arith, c .before .before .before .before .before .before .loop-test .taken)
 
 loop-again : tie.Need-loop-again Inv-loop μ-loop
 unfolding linesText metBelow
-loop-again c = let a = c .before .before .before .before .before .before .before .before .before .before .before .args in let file = a .file .now in let deadlines = a .deadlines .now in let t = c .before .before .before .before .before .before .before .loop .t in let i = c .before .before .before .before .before .before .before .loop .inv in let line = c .before .before .before .before .before .line-at .ensures in (omega (arith, c .before .before .before .before .before .before .loop-test .taken), ap₂ (λ (m n : ℕ). m + n) (i .1) (c .met-by .ensures .0 ∙ ap met line) ∙ ap (metBelow file deadlines) (sym (add-one t)), omega (arith, i .2, c .met-by .ensures .1), c .before .before .before .put-line .kept .0 ∙ i .3, omega (arith, i .4, c .before .before .before .put-line .ensures .0), as-text _ _ (ap (linesText file deadlines) (sym (add-one t))) (wrote-then _ _ _ _ (i .5) (as-text _ _ (ap lineText line) (c .before .before .before .put-line .ensures .1))))
+loop-again c =
+    let c₃ = c .before .before .before in
+    let c₅ = c₃ .before .before in
+    let c₆ = c₅ .before in
+    let c₇ = c₆ .before in
+    let c₁₁ = c₇ .before .before .before .before in
+    let a = c₁₁ .args in
+    let file = a .file .now in
+    let deadlines = a .deadlines .now in
+    let t = c₇ .loop .t in
+    let i = c₇ .loop .inv in
+    let line = c₅ .line-at .ensures in (
+      omega (arith, c₆ .loop-test .taken),
+      ap₂ (λ (m n : ℕ). m + n) (i .1) (c .met-by .ensures .0 ∙ ap met line) ∙ ap (metBelow file deadlines) (sym (add-one t)),
+      omega (arith, i .2, c .met-by .ensures .1),
+      c₃ .put-line .kept .0 ∙ i .3,
+      omega (arith, i .4, c₃ .put-line .ensures .0),
+      as-text _ _ (ap (linesText file deadlines) (sym (add-one t)))
+          (wrote-then _ _ _ _ (i .5) (as-text _ _ (ap lineText line) (c₃ .put-line .ensures .1))),
+    )
 
 same-length : tie.Need-same-length Inv-loop μ-loop
 same-length c = c .before .loop .inv .3
 
 returns : tie.Need-returns Inv-loop μ-loop
-returns c = let a = c .before .before .before .before .before .args in let i = c .before .loop .inv in let end : c .before .loop .t ≡ a .all = omega (arith, c .loop-test .left, i .0) in (i .1 ∙ ap (metBelow (a .file .now) (a .deadlines .now)) end, i .4 ∙ ap (λ (n : ℕ). a .at + 78 * n) end, as-text _ _ (ap (linesText (a .file .now) (a .deadlines .now)) end) (i .5))
+returns c =
+    let c₅ = c .before .before .before .before .before in
+    let a = c₅ .args in
+    let i = c .before .loop .inv in
+    let end : c .before .loop .t ≡ a .all = omega (arith, c .loop-test .left, i .0) in (
+      i .1 ∙ ap (metBelow (a .file .now) (a .deadlines .now)) end,
+      i .4 ∙ ap (λ (n : ℕ). a .at + 78 * n) end,
+      as-text _ _ (ap (linesText (a .file .now) (a .deadlines .now)) end) (i .5),
+    )
 
 pub put-lines-spec : {M : Type 1} → statement M
 put-lines-spec =

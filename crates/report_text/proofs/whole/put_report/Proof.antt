@@ -30,7 +30,17 @@ same-length c = search needs
 
 returns : tie.Need-returns
 unfolding reportText headerText column right spaces
-returns c = let a = c .before .before .before .before .before .before .before .before .before .before .before .before .before .before .before .before .args in let file = a .file .now in let deadlines = a .deadlines .now in let count = c .before .before .before .before .before .before .before .before .before .before .before .before .before .before .before .before .pre .1 in wrote-then _ _ _ _ (wrote-then _ _ _ _ (c .before .before .before .before .before .before .before .before .before .before .put-text .ensures) (as-text _ _ (ap (linesText file deadlines) count) (c .before .before .before .before .before .before .put-lines .ensures .2))) (as-text _ _ (ap₂ lastText (c .before .before .before .before .before .before .put-lines .ensures .0 ∙ ap (metBelow file deadlines) count) count) (c .before .before .put-last .ensures))
+returns c =
+    let c₆ = c .before .before .before .before .before .before in
+    let c₁₀ = c₆ .before .before .before .before in
+    let c₁₆ = c₁₀ .before .before .before .before .before .before in
+    let a = c₁₆ .args in
+    let file = a .file .now in
+    let deadlines = a .deadlines .now in
+    let count = c₁₆ .pre .1 in
+    wrote-then _ _ _ _
+    (wrote-then _ _ _ _ (c₁₀ .put-text .ensures) (as-text _ _ (ap (linesText file deadlines) count) (c₆ .put-lines .ensures .2)))
+    (as-text _ _ (ap₂ lastText (c₆ .put-lines .ensures .0 ∙ ap (metBelow file deadlines) count) count) (c .before .before .put-last .ensures))
 
 pub put-report-spec : {M : Type 1} → statement M
 put-report-spec =

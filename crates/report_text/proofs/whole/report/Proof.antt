@@ -28,19 +28,51 @@ serve-requires : tie.Need-serve-requires
 serve-requires c κs = search needs
 
 returns-2 : tie.Need-returns-2
-returns-2 c = let a = c .before .before .before .before .before .before .before .before .args in let accepted : fileRefusal (a .file .now) ≡ 0 = omega (arith, c .before .before .before .before .file-refusal .ensures, c .before .before .before .if1 .left) in unserved (a .file .now) (a .deadlines .now) (a .out .now) accepted (c .before .before .half .ensures .0) (sym (c .before .serve .ensures) ∙ not-true _ (c .if2 .taken))
+returns-2 c =
+    let c₃ = c .before .before .before in
+    let c₄ = c₃ .before in
+    let c₈ = c₄ .before .before .before .before in
+    let a = c₈ .args in
+    let accepted : fileRefusal (a .file .now) ≡ 0 = omega (arith, c₄ .file-refusal .ensures, c₃ .if1 .left) in
+    unserved (a .file .now) (a .deadlines .now) (a .out .now) accepted (c .before .before .half .ensures .0)
+    (sym (c .before .serve .ensures) ∙ not-true _ (c .if2 .taken))
 
 returns-3 : tie.Need-returns-3
-returns-3 c = let a = c .before .before .before .before .before .before .before .before .before .args in let accepted : fileRefusal (a .file .now) ≡ 0 = omega (arith, c .before .before .before .before .before .file-refusal .ensures, c .before .before .before .before .if1 .left) in cramped (a .file .now) (a .deadlines .now) (a .out .now) accepted (c .before .before .before .half .ensures .0) (sym (c .before .before .serve .ensures) ∙ not-false _ (c .before .if2 .left)) (omega (arith, c .if3 .taken))
+returns-3 c =
+    let c₃ = c .before .before .before in
+    let c₄ = c₃ .before in
+    let c₅ = c₄ .before in
+    let c₉ = c₅ .before .before .before .before in
+    let a = c₉ .args in
+    let accepted : fileRefusal (a .file .now) ≡ 0 = omega (arith, c₅ .file-refusal .ensures, c₄ .if1 .left) in
+    cramped (a .file .now) (a .deadlines .now) (a .out .now) accepted (c₃ .half .ensures .0)
+    (sym (c .before .before .serve .ensures) ∙ not-false _ (c .before .if2 .left)) (omega (arith, c .if3 .taken))
 
 put-report-requires : tie.Need-put-report-requires
-put-report-requires c κs = let accepted : fileRefusal (c .before .before .before .before .before .before .before .before .before .before .args .file .now) ≡ 0 = omega (arith, c .before .before .before .before .before .before .file-refusal .ensures, c .before .before .before .before .before .if1 .left) in (accepted, c .before .before .before .before .half .ensures .0, omega (arith, few-traces _ accepted, c .before .before .before .before .half .ensures .0), omega (arith, c .before .if3 .left))
+put-report-requires c κs =
+    let c₄ = c .before .before .before .before in
+    let c₅ = c₄ .before in
+    let c₆ = c₅ .before in
+    let c₁₀ = c₆ .before .before .before .before in
+    let accepted : fileRefusal (c₁₀ .args .file .now) ≡ 0 = omega (arith, c₆ .file-refusal .ensures, c₅ .if1 .left) in
+    (accepted, c₄ .half .ensures .0, omega (arith, few-traces _ accepted, c₄ .half .ensures .0), omega (arith, c .before .if3 .left))
 
 same-length : tie.Need-same-length
 same-length c = search needs
 
 returns-4 : tie.Need-returns-4
-returns-4 c = let a = c .before .before .before .before .before .before .before .before .before .before .before .before .before .args in let accepted : fileRefusal (a .file .now) ≡ 0 = omega (arith, c .before .before .before .before .before .before .before .before .before .file-refusal .ensures, c .before .before .before .before .before .before .before .before .if1 .left) in reported (a .file .now) (a .deadlines .now) (a .out .now) accepted (c .before .before .before .before .before .before .before .half .ensures .0) (sym (c .before .before .before .before .before .before .serve .ensures) ∙ not-false _ (c .before .before .before .before .before .if2 .left)) (omega (arith, c .before .before .before .before .if3 .left)) (c .before .before .put-report .ensures)
+returns-4 c =
+    let c₄ = c .before .before .before .before in
+    let c₅ = c₄ .before in
+    let c₆ = c₅ .before in
+    let c₇ = c₆ .before in
+    let c₈ = c₇ .before in
+    let c₉ = c₈ .before in
+    let c₁₃ = c₉ .before .before .before .before in
+    let a = c₁₃ .args in
+    let accepted : fileRefusal (a .file .now) ≡ 0 = omega (arith, c₉ .file-refusal .ensures, c₈ .if1 .left) in
+    reported (a .file .now) (a .deadlines .now) (a .out .now) accepted (c₇ .half .ensures .0)
+    (sym (c₆ .serve .ensures) ∙ not-false _ (c₅ .if2 .left)) (omega (arith, c₄ .if3 .left)) (c .before .before .put-report .ensures)
 
 pub report-spec : {M : Type 1} → statement M
 report-spec =

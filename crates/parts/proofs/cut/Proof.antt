@@ -5,9 +5,9 @@ use mathlib.Core.Logic.{⊎-elim}
 use mathlib.Core.Path.{refl}
 use native.Mathlib.Nat.{sub-eq-zero-of-le, le-of-lt}
 use native.Mathlib.Omega.{arith}
 use Rattle.job.specs.Open.{partOf}
-use Rattle.job.proofs.parts.cut.Statement.{statement}
-use Rattle.job.proofs.parts.cut.Tie as tie
+use Rattle.parts.proofs.cut.Statement.{statement}
+use Rattle.parts.proofs.cut.Tie as tie
 
 slice-aggregate-result : tie.Need-slice-aggregate-result
 slice-aggregate-result c = search needs

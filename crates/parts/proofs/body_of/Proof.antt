@@ -1,10 +1,10 @@
 -- `body_of` meets its contract: the part between the body's bounds.
 use mathlib.Core.Path.{subst}
 use Rattle.record.specs.Part.{StartsAt}
-use Rattle.job.specs.declared.bodies.Bounds.{Bounds}
+use Rattle.job.specs.declared.table.Bounds.{Bounds}
 use Rattle.job.proofs.Part.{bounds-lie, bounds-body}
-use Rattle.job.proofs.bodies.body_of.Statement.{statement}
-use Rattle.job.proofs.bodies.body_of.Tie as tie
+use Rattle.parts.proofs.body_of.Statement.{statement}
+use Rattle.parts.proofs.body_of.Tie as tie
 
 bounds-of-requires : tie.Need-bounds-of-requires
 bounds-of-requires c κs = c .before .pre

@@ -2,8 +2,8 @@
 use Rattle.job.proofs.Accepted.{file-fine, body-fits, bounds-read}
 use native.Mathlib.Omega.{arith}
 use borrow.Author.Needs.{needs}
-use Rattle.job.proofs.bodies.bounds_of.Statement.{statement}
-use Rattle.job.proofs.bodies.bounds_of.Tie as tie
+use Rattle.job.proofs.table.bounds_of.Statement.{statement}
+use Rattle.job.proofs.table.bounds_of.Tie as tie
 
 mul-at : tie.Need-mul-at
 mul-at c = let few = file-fine _ (c .before .pre .0) .table .few in omega (arith, few, c .before .pre .1)
