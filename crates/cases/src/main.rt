@@ -1,42 +1,39 @@
-// The cases that document 01 names and does not prove, and A to L again, each on a line as document
-// 01 names it, with how many of its inputs came out as they should in the engine and in the second
-// model. The two longest traces go through the engine alone; Step is compared with Run; and View is
-// run, which the second model does not have.
-mod build;
-mod reads;
-mod runs;
-mod times;
+// Runs the cases on standard input through the engine and the second model, and says for each group
+// how many came out as their lines say. `tools/make-cases` makes the lines of the texts in `data`:
+//
+//   p AT N HEX         bytes, N times from AT on: of the input, or of what stands beside it (lines.rt)
+//   CALL LENGTH ARGUMENTS = ANSWER
+//                      a case, on so many bytes of the input; by the engine alone where CALL has a
+//                      capital
+//   group LABEL        the end of a group
+mod engine;
+mod expect;
+mod lay;
+mod lines;
+mod read;
+mod second;
+mod writing;
 
-fn elsewhere() {
-    times::plain_ones();
-    runs::limits();
-    runs::other_limits();
-    times::margins();
-    times::other_margins();
-    times::likeness();
+ghost use mathlib.Core.Path.{_≡_};
+ghost use lib.ListN.{length};
+
+// Room for all lines, and for the bytes of a case and those beside them. The contracts give only the length: what the array
+// holds would be carried along at a cost.
+fn all_lines() -> [u8; 700000]
+    ensures { λ r. ⌜ 700000 ≡ length r ⌝ }
+{
+    [0; 700000]
 }
 
-fn astray() {
-    times::hit_turned_into_miss();
-    times::fetch_behind_memory();
-    runs::last_instruction_first();
-    times::stage_about_to_be_free();
-    times::dependences();
-}
-
-fn view() {
-    reads::every_instruction();
-    reads::past_the_end();
-    reads::refused();
-    reads::too_long();
+fn room() -> [u8; 131200]
+    ensures { λ r. ⌜ 131200 ≡ length r ⌝ }
+{
+    [0; 131200]
 }
 
 fn main() {
-    times::worked();
-    elsewhere();
-    astray();
-    times::longest();
-    runs::long_run();
-    runs::steps();
-    view();
+    let mut data = all_lines();
+    let mut bytes = room();
+    let n = io::read_full(0, &mut data);
+    lines::each_line(&data[..n], &mut bytes);
 }
