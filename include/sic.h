@@ -49,8 +49,8 @@ enum sic_refusal {
 
 #define SIC_MAX_INSTRUCTIONS 4096
 #define SIC_MAX_FILE_BYTES 65536
-#define SIC_CHART_BYTES 143201
-#define SIC_REPORT_BYTES 1365
+#define SIC_CHART_BYTES (25 + 1001 * 143 + 33) /* the header, rows 0 to 1,000, the last line */
+#define SIC_REPORT_BYTES (17 * 78 + 39) /* the header and 16 lines, the last line */
 
 /* A stage's slot: empty, with index and count 0, or an instruction and its remaining count. */
 typedef struct {

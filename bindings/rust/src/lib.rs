@@ -24,8 +24,8 @@ pub const MAX_INSTRUCTIONS: usize = 4096;
 pub const MAX_FILE_BYTES: usize = 65536;
 /// The bytes of a record.
 pub const RECORD_SIZE: usize = 10;
-const CHART_BYTES: usize = 143201;
-const REPORT_BYTES: usize = 1365;
+const CHART_BYTES: usize = 25 + 1001 * 143 + 33; // the header, rows 0 to 1,000, the last line
+const REPORT_BYTES: usize = 17 * 78 + 39; // the header and 16 lines, the last line
 
 /// A stage's slot; an empty one has index and count 0.
 #[derive(Clone, Copy, Debug, Default, PartialEq, Eq)]

@@ -8,8 +8,8 @@ use lib.ListN.{length, length-append}
 use Rattle.machine.specs.declared.Slot.{Slot}
 use Rattle.machine.specs.declared.State.{State}
 use Rattle.machine.proofs.Connectives.{Value, passed, failed, value}
-use Rattle.text.specs.Text.{decimal}
-use Rattle.chart_lines.specs.Lines.{slotText, rowText, timesText, refusalText}
+use Rattle.text.specs.Text.{mostDigits, decimal}
+use Rattle.chart_lines.specs.Lines.{slotText, rowText, timesText, refusalText, slotBytes, rowBytes, timesBytes, refusalBytes}
 use Rattle.text.proofs.Pieces.{decimal-short}
 
 pub slot-filled : (s : Slot) → s .filled ≡ true → slotText s ≡ (32 ∷ []) ++ decimal (s .index) ++ (58 ∷ []) ++ decimal (s .count)
@@ -27,7 +27,7 @@ pub record Short (n : ℕ) (text : List ℕ) : Type 0 where
 one : (b : ℕ) → Short 1 (b ∷ [])
 one b = record { within = omega arith }
 
-number : (n : ℕ) → Short 10 (decimal n)
+number : (n : ℕ) → Short mostDigits (decimal n)
 number n = record { within = decimal-short n }
 
 pub both : {m n : ℕ} {a b : List ℕ} → Short m a → Short n b → Short (m + n) (a ++ b)
@@ -40,17 +40,17 @@ both {m} {n} {a} {b} h k =
 pub labelled-short : (label : List ℕ) (n : ℕ) → length (label ++ decimal n) ≤ length label + 10
 labelled-short label n = let e = length-append label (decimal n) in let d = decimal-short n in omega arith
 
-slot-by : (s : Slot) → Value (s .filled) → Short 22 (slotText s)
+slot-by : (s : Slot) → Value (s .filled) → Short slotBytes (slotText s)
 slot-by s (passed e) = rw (slot-filled s e) (both (both (both (one 32) (number (s .index))) (one 58)) (number (s .count)))
 slot-by s (failed e) = rw (slot-empty s e) (record { within = omega arith })
 
-slot-is-short : (s : Slot) → Short 22 (slotText s)
+slot-is-short : (s : Slot) → Short slotBytes (slotText s)
 slot-is-short s = slot-by s (value (s .filled))
 
 slots-are-short : (a b c : Slot) → Short 66 (slotText a ++ slotText b ++ slotText c)
 slots-are-short a b c = both (both (slot-is-short a) (slot-is-short b)) (slot-is-short c)
 
-pub slot-short : (s : Slot) → length (slotText s) ≤ 22
+pub slot-short : (s : Slot) → length (slotText s) ≤ slotBytes
 slot-short s = slot-is-short s .within
 
 pub slots-short : (a b c : Slot) → length (slotText a ++ slotText b ++ slotText c) ≤ 66
@@ -72,7 +72,7 @@ row-joined n s =
     ∙ ap (λ (t : List ℕ). t ++ slotText (s .MEM) ++ slotText (s .ST) ++ slotText (s .WB))
     (three (decimal n) (slotText (s .IF)) (slotText (s .ID)) (slotText (s .EX))))
 
-pub row-is-short : (n : ℕ) (s : State) → Short 143 (rowText n s)
+pub row-is-short : (n : ℕ) (s : State) → Short rowBytes (rowText n s)
 row-is-short n s =
     rw (sym (row-joined n s))
     (both
@@ -95,12 +95,12 @@ times-joined latest earliest =
 six : (a b c d e f : ℕ) → Short 6 (a ∷ b ∷ c ∷ d ∷ e ∷ f ∷ [])
 six a b c d e f = record { within = omega arith }
 
-pub times-is-short : (latest earliest : ℕ) → Short 33 (timesText latest earliest)
+pub times-is-short : (latest earliest : ℕ) → Short timesBytes (timesText latest earliest)
 unfolding timesText
 times-is-short latest earliest =
     both (both (both (both (six 119 111 114 115 116 32) (number latest)) (six 32 98 101 115 116 32)) (number earliest)) (one 10)
 
-pub refusal-short : (number : ℕ) → length (refusalText number) ≤ 19
+pub refusal-short : (number : ℕ) → length (refusalText number) ≤ refusalBytes
 unfolding refusalText
 refusal-short n =
     let l = length-append ((114 ∷ 101 ∷ 102 ∷ 117 ∷ 115 ∷ 101 ∷ 100 ∷ 32 ∷ []) ++ decimal n) (10 ∷ []) in

@@ -1,10 +1,11 @@
 -- The lines of the chart program's text: document 01, "Charts worked by hand".
-use Prim.Native.Nat.{ℕ}
+use Prim.Native.Nat.{ℕ, _+_, _*_}
 use mathlib.Core.Bool.{cond}
 use mathlib.Core.List.{List, [], _∷_, _++_}
 use Rattle.machine.specs.declared.Slot.{Slot}
 use Rattle.machine.specs.declared.State.{State}
-use Rattle.text.specs.Text.{space, newline, decimal}
+use lib.ListN.{length}
+use Rattle.text.specs.Text.{space, newline, mostDigits, decimal}
 
 abbrev dash : ℕ
 dash = 45
@@ -52,3 +53,20 @@ timesText worst best =
 -- "A refusal prints only `refused` and its number."
 unfoldable pub refusalText : ℕ → List ℕ
 refusalText number = (114 ∷ 101 ∷ 102 ∷ 117 ∷ 115 ∷ 101 ∷ 100 ∷ space ∷ []) ++ decimal number ++ (newline ∷ [])
+
+-- The most bytes that each takes, a number taken as the most digits: the header; a slot, which is a space, an index, a colon and a count; a row,
+-- which is a cycle, six slots and a newline; the last line, in which two words of six bytes stand before the times; the line of a refusal.
+abbrev pub headerBytes : ℕ
+headerBytes = length headerText
+
+abbrev pub slotBytes : ℕ
+slotBytes = 1 + mostDigits + 1 + mostDigits
+
+abbrev pub rowBytes : ℕ
+rowBytes = mostDigits + 6 * slotBytes + 1
+
+abbrev pub timesBytes : ℕ
+timesBytes = 6 + mostDigits + 6 + mostDigits + 1
+
+abbrev pub refusalBytes : ℕ
+refusalBytes = 8 + mostDigits + 1

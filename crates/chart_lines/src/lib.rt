@@ -2,6 +2,9 @@
 // each requires room for its line.
 pub mod lines;
 
+pub use lines::HEADER_BYTES;
+pub use lines::ROW_BYTES;
+pub use lines::TIMES_BYTES;
 pub use lines::draw_refusal;
 pub use lines::put_header;
 pub use lines::put_row;

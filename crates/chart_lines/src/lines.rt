@@ -1,15 +1,20 @@
 // One line of a chart: the header; a row, which is the cycle, then the slots as index:count or a
 // dash; the last line, which has worst and best; and the line that gives a refusal.
-ghost use Prim.Native.Nat.{_+_, _≤_};
+ghost use Prim.Native.Nat.{_+_, _*_, _≤_};
 ghost use mathlib.Core.List.{_++_};
 ghost use lib.ListN.{length};
-ghost use Rattle.text.specs.Text.{decimal, Wrote};
+ghost use Rattle.text.specs.Text.{mostDigits, decimal, Wrote};
 ghost use Rattle.chart_lines.specs.Lines.{
   headerText,
   slotText,
   rowText,
   timesText,
   refusalText,
+  headerBytes,
+  slotBytes,
+  rowBytes,
+  timesBytes,
+  refusalBytes,
 };
 use machine::Slot;
 use machine::State;
@@ -17,15 +22,28 @@ use text::put_byte;
 use text::put_decimal;
 use text::put_text;
 
+// The most digits that a number of 32 bits has.
+const DIGITS: usize = 10;
+
+// The most bytes of a slot: a space, an index, a colon and a count.
+const SLOT_BYTES: usize = 1 + DIGITS + 1 + DIGITS;
+
+// The most bytes of each line.
+pub const HEADER_BYTES: usize = 25;
+
+pub const ROW_BYTES: usize = DIGITS + 6 * SLOT_BYTES + 1;
+
+pub const TIMES_BYTES: usize = 6 + DIGITS + 6 + DIGITS + 1;
+
 pub fn put_header(out: &mut [u8]) -> usize
-    requires { ⌜ 25 ≤ length (now out) ⌝ }
+    requires { ⌜ headerBytes ≤ length (now out) ⌝ }
     ensures { λ r. ⌜ Wrote 0 headerText (now (out .entry)) (now (out .exit)) r ⌝ }
 {
     put_text(out, 0, b"cycle IF ID EX MEM ST WB\n")
 }
 
 fn put_slot(out: &mut [u8], at: usize, s: Slot) -> usize
-    requires { ⌜ at + 22 ≤ length (now out) ⌝ }
+    requires { ⌜ at + slotBytes ≤ length (now out) ⌝ }
     ensures { λ r. ⌜ Wrote at (slotText s) (now (out .entry)) (now (out .exit)) r ⌝ }
 {
     let next = put_byte(out, at, b' ');
@@ -38,7 +56,7 @@ fn put_slot(out: &mut [u8], at: usize, s: Slot) -> usize
 }
 
 fn put_slots(out: &mut [u8], at: usize, first: Slot, second: Slot, third: Slot) -> usize
-    requires { ⌜ at + 66 ≤ length (now out) ⌝ }
+    requires { ⌜ at + 3 * slotBytes ≤ length (now out) ⌝ }
     ensures { λ r. ⌜ Wrote at (slotText first ++ slotText second ++ slotText third) (now (out .entry)) (now (out .exit)) r ⌝ }
 {
     let next = put_slot(out, at, first);
@@ -47,7 +65,7 @@ fn put_slots(out: &mut [u8], at: usize, first: Slot, second: Slot, third: Slot) 
 }
 
 pub fn put_row(out: &mut [u8], at: usize, cycle: u32, s: State) -> usize
-    requires { ⌜ at + 143 ≤ length (now out) ⌝ }
+    requires { ⌜ at + rowBytes ≤ length (now out) ⌝ }
     ensures { λ r. ⌜ Wrote at (rowText cycle s) (now (out .entry)) (now (out .exit)) r ⌝ }
 {
     let slots = put_decimal(out, at, cycle);
@@ -57,7 +75,7 @@ pub fn put_row(out: &mut [u8], at: usize, cycle: u32, s: State) -> usize
 }
 
 fn put_labelled(out: &mut [u8], at: usize, label: &[u8], number: u32) -> usize
-    requires { ⌜ at + length (now label) + 10 ≤ length (now out) ⌝ }
+    requires { ⌜ at + length (now label) + mostDigits ≤ length (now out) ⌝ }
     ensures { λ r. ⌜ Wrote at (now (label .entry) ++ decimal number) (now (out .entry)) (now (out .exit)) r ⌝ }
 {
     let digits = put_text(out, at, label);
@@ -65,7 +83,7 @@ fn put_labelled(out: &mut [u8], at: usize, label: &[u8], number: u32) -> usize
 }
 
 pub fn put_times(out: &mut [u8], at: usize, worst: u32, best: u32) -> usize
-    requires { ⌜ at + 33 ≤ length (now out) ⌝ }
+    requires { ⌜ at + timesBytes ≤ length (now out) ⌝ }
     ensures { λ r. ⌜ Wrote at (timesText worst best) (now (out .entry)) (now (out .exit)) r ⌝ }
 {
     let between = put_labelled(out, at, b"worst ", worst);
@@ -74,7 +92,7 @@ pub fn put_times(out: &mut [u8], at: usize, worst: u32, best: u32) -> usize
 }
 
 pub fn draw_refusal(out: &mut [u8], number: u32) -> usize
-    requires { ⌜ 19 ≤ length (now out) ⌝ }
+    requires { ⌜ refusalBytes ≤ length (now out) ⌝ }
     ensures { λ r. ⌜ Wrote 0 (refusalText number) (now (out .entry)) (now (out .exit)) r ⌝ }
 {
     let end = put_labelled(out, 0, b"refused ", number);

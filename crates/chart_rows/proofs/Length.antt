@@ -4,11 +4,11 @@ use native.Mathlib.Omega.{arith}
 use lib.ListN.{length, length-append}
 use Rattle.machine.specs.Instruction.{Trace}
 use Rattle.machine.proofs.RunStates.{stateAfter}
-use Rattle.chart_lines.specs.Lines.{rowText}
+use Rattle.chart_lines.specs.Lines.{rowText, rowBytes}
 use Rattle.chart_lines.proofs.Lengths.{row-is-short}
 use Rattle.chart_rows.specs.Rows.{rowsText}
 
-pub rows-short : (trace : Trace) (n : ℕ) → length (rowsText trace n) ≤ 143 * n
+pub rows-short : (trace : Trace) (n : ℕ) → length (rowsText trace n) ≤ rowBytes * n
 unfolding rowsText
 rows-short trace zero = omega arith
 rows-short trace (suc n) =

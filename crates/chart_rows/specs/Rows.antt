@@ -6,6 +6,10 @@ use Rattle.machine.specs.Rules.{after}
 use Rattle.machine.specs.State.{stateOf}
 use Rattle.chart_lines.specs.Lines.{rowText}
 
+-- "rows 0 to the smaller of finishing time and 1,000"
+abbrev pub lastRow : ℕ
+lastRow = 1000
+
 -- the first n rows: the states after 0, 1, .. n - 1 cycles
 unfoldable pub rowsText : Trace → ℕ → List ℕ
 rowsText trace zero = []

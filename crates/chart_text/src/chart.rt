@@ -10,6 +10,9 @@ ghost use Rattle.chart_text.specs.Chart.{
   chartLength,
   chartOutput,
 };
+use chart_lines::HEADER_BYTES;
+use chart_lines::ROW_BYTES;
+use chart_lines::TIMES_BYTES;
 use chart_lines::draw_refusal;
 use chart_lines::put_header;
 use chart_lines::put_times;
@@ -18,10 +21,10 @@ use job::locate;
 use parts::cut;
 use timing::best_worst;
 
-// Room for any chart: the header, 1,001 rows and the last line, each number taken as ten digits.
-pub const CHART_BYTES: usize = 143201;
-
 const LAST_ROW: u32 = 1000;
+
+// Room for any chart: the header, rows 0 to 1,000 and the last line.
+pub const CHART_BYTES: usize = HEADER_BYTES + (LAST_ROW as usize + 1) * ROW_BYTES + TIMES_BYTES;
 
 fn smaller(a: u32, b: u32) -> u32
     ensures { λ r. ⌜ r ≡ min a b ⌝ }

@@ -1,6 +1,7 @@
 // Draws each job file that the arguments name and compares the text with its chart: the arguments
 // are pairs, a job file and its chart.
 ghost use Rattle.io.specs.Counts.{Counts};
+use chart_text::CHART_BYTES;
 use chart_text::draw;
 use libc::STDOUT_FILENO;
 
@@ -38,8 +39,8 @@ fn print_arg(i: usize) {
 
 fn agrees(i: usize, chart: usize) -> bool {
     let mut file = [0u8; 65537];
-    let mut expected = [0u8; 143201];
-    let mut text = [0u8; 143201];
+    let mut expected = [0u8; CHART_BYTES];
+    let mut text = [0u8; CHART_BYTES];
     let length = read_named(i, &mut file);
     let all = read_named(chart, &mut expected);
     let end = draw(&file[..length], &mut text);

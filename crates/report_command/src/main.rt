@@ -6,6 +6,7 @@ use deadlines::Deadline;
 use deadlines::deadline_of;
 use libc::STDIN_FILENO;
 use libc::STDOUT_FILENO;
+use report_text::REPORT_BYTES;
 use report_text::report;
 
 const MAX_TRACES: usize = 16;
@@ -48,7 +49,7 @@ fn read_deadlines(last: usize, deadlines: &mut [u32]) -> usize {
 // One byte more than a file may have is read, so that a longer input is refused as such.
 fn print_report(deadlines: &[u32]) {
     let mut file = [0u8; 65537];
-    let mut text = [0u8; 1365];
+    let mut text = [0u8; REPORT_BYTES];
     let length = io::read_full(STDIN_FILENO, &mut file);
     let reported = report(&file[..length], deadlines, &mut text);
     let end = reported.length;

@@ -1,9 +1,9 @@
 -- The lines of the report, as text. A trace's line begins with the margin and its sign, since that is the figure people look for; then come the
 -- trace's number, instructions, unknown flags, best, worst and deadline. Columns stay aligned for the largest values.
-use Prim.Native.Nat.{ℕ, zero, suc}
+use Prim.Native.Nat.{ℕ, zero, suc, _+_}
 use mathlib.Core.List.{List, [], _∷_, _++_}
 use lib.IntN.{ℤ, pos, negsuc, _-ℤ_}
-use Rattle.text.specs.Text.{space, newline, decimal, spaces, right}
+use Rattle.text.specs.Text.{space, newline, mostDigits, decimal, spaces, right}
 use Rattle.report_figures.specs.declared.Line.{Line}
 
 -- a number with its sign, `+` or `-`; 0 has none
@@ -43,9 +43,9 @@ headerText =
     ++ column 10 (100 ∷ 101 ∷ 97 ∷ 100 ∷ 108 ∷ 105 ∷ 110 ∷ 101 ∷ [])
     ++ (newline ∷ [])
 
--- the length of every line, the header's too, with its newline
+-- the length of every line, the header's too: the margin, six columns and a newline
 abbrev pub lineBytes : ℕ
-lineBytes = 78
+lineBytes = 11 + (2 + 5) + (2 + 12) + (2 + 7) + (2 + 10) + (2 + 10) + (2 + 10) + 1
 
 -- `N of N deadlines met`
 unfoldable pub lastText : ℕ → ℕ → List ℕ
@@ -54,3 +54,7 @@ lastText met all =
     ++ (space ∷ 111 ∷ 102 ∷ space ∷ [])
     ++ decimal all
     ++ (space ∷ 100 ∷ 101 ∷ 97 ∷ 100 ∷ 108 ∷ 105 ∷ 110 ∷ 101 ∷ 115 ∷ space ∷ 109 ∷ 101 ∷ 116 ∷ newline ∷ [])
+
+-- the most bytes of it: two numbers, the four bytes between them and the fifteen after
+abbrev pub lastBytes : ℕ
+lastBytes = mostDigits + 4 + mostDigits + 15

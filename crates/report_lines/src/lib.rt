@@ -5,7 +5,7 @@ ghost use mathlib.Core.List.{_∷_};
 ghost use Prim.Native.Nat.{_+_, _≤_, _<_};
 ghost use lib.ListN.{length};
 ghost use Rattle.text.specs.Text.{Wrote, decimal, right};
-ghost use Rattle.report_lines.specs.Lines.{marginText, column, lineText, lastText};
+ghost use Rattle.report_lines.specs.Lines.{marginText, column, lineText, lineBytes, lastText, lastBytes};
 use report_figures::Line;
 use text::digits;
 use text::put_byte;
@@ -16,7 +16,28 @@ use text::put_text;
 
 const MARGIN_WIDTH: usize = 11;
 
+// The widths of the columns after the margin, and the gap before each.
+const NUMBER_WIDTH: usize = 5;
+
+const INSTRUCTIONS_WIDTH: usize = 12;
+
+const UNKNOWN_WIDTH: usize = 7;
+
+const TIME_WIDTH: usize = 10;
+
 const GAP: usize = 2;
+
+// The bytes of a line, the header's too, and the most of the last line, whose two numbers have at
+// most ten digits.
+pub const LINE_BYTES: usize = MARGIN_WIDTH
+    + 6 * GAP
+    + NUMBER_WIDTH
+    + INSTRUCTIONS_WIDTH
+    + UNKNOWN_WIDTH
+    + 3 * TIME_WIDTH
+    + 1;
+
+pub const LAST_BYTES: usize = 10 + 4 + 10 + 15;
 
 fn put_signed(out: &mut [u8], at: usize, sign: u8, n: u32) -> usize
     requires { ⌜ at + 11 ≤ length (now out) ⌝ }
@@ -49,21 +70,21 @@ fn put_column(out: &mut [u8], at: usize, width: usize, n: u32) -> usize
 }
 
 pub fn put_line(out: &mut [u8], at: usize, line: Line) -> usize
-    requires { ⌜ (line .number < 100000) × (line .unknown < 10000000) × (at + 78 ≤ length (now out)) ⌝ }
-    ensures { λ r. ⌜ (r ≡ at + 78) × Wrote at (lineText line) (now (out .entry)) (now (out .exit)) r ⌝ }
+    requires { ⌜ (line .number < 100000) × (line .unknown < 10000000) × (at + lineBytes ≤ length (now out)) ⌝ }
+    ensures { λ r. ⌜ (r ≡ at + lineBytes) × Wrote at (lineText line) (now (out .entry)) (now (out .exit)) r ⌝ }
 {
     let number = put_margin(out, at, line.deadline, line.worst);
-    let instructions = put_column(out, number, 5, line.number);
-    let unknown = put_column(out, instructions, 12, line.instructions);
-    let best = put_column(out, unknown, 7, line.unknown);
-    let worst = put_column(out, best, 10, line.best);
-    let deadline = put_column(out, worst, 10, line.worst);
-    let end = put_column(out, deadline, 10, line.deadline);
+    let instructions = put_column(out, number, NUMBER_WIDTH, line.number);
+    let unknown = put_column(out, instructions, INSTRUCTIONS_WIDTH, line.instructions);
+    let best = put_column(out, unknown, UNKNOWN_WIDTH, line.unknown);
+    let worst = put_column(out, best, TIME_WIDTH, line.best);
+    let deadline = put_column(out, worst, TIME_WIDTH, line.worst);
+    let end = put_column(out, deadline, TIME_WIDTH, line.deadline);
     put_byte(out, end, b'\n')
 }
 
 pub fn put_last(out: &mut [u8], at: usize, met: u32, all: u32) -> usize
-    requires { ⌜ at + 39 ≤ length (now out) ⌝ }
+    requires { ⌜ at + lastBytes ≤ length (now out) ⌝ }
     ensures { λ r. ⌜ Wrote at (lastText met all) (now (out .entry)) (now (out .exit)) r ⌝ }
 {
     let of = put_decimal(out, at, met);

@@ -14,14 +14,14 @@ use Rattle.job.proofs.Part.{opened-accepted}
 use Rattle.text.specs.Text.{space, newline, decimal, spaces, right}
 use Rattle.text.proofs.Pieces.{decimal-short}
 use Rattle.report_figures.specs.Figures.{unknownFlags, lineOf}
-use Rattle.report_lines.specs.Lines.{lineText, column, headerText, lineBytes, lastText}
+use Rattle.report_lines.specs.Lines.{lineText, column, headerText, lineBytes, lastText, lastBytes}
 use Rattle.report_text.specs.Report.{deadlineAt, lineAt, linesText, metBelow, reportText, longest}
 use Rattle.report_text.specs.Claims.{LinesAligned}
 use Rattle.report_figures.specs.declared.Line.{Line}
 use Rattle.report_figures.proofs.Flags.{unknown-few}
 use Rattle.report_lines.proofs.Columns.{line-width}
 
-last-short : (met all : ℕ) → length (lastText met all) ≤ 39
+last-short : (met all : ℕ) → length (lastText met all) ≤ lastBytes
 unfolding lastText
 last-short met all =
     let of = space ∷ 111 ∷ 102 ∷ space ∷ [] in

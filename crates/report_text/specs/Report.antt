@@ -1,17 +1,17 @@
 -- The report of a job file against deadlines, as text: the header, a line for each trace, and a last line that says how many deadlines are met.
-use Prim.Native.Nat.{ℕ, zero, suc, _+_}
+use Prim.Native.Nat.{ℕ, zero, suc, _+_, _*_}
 use mathlib.Core.Bool.{Bool, cond}
 use mathlib.Core.List.{List, [], _++_}
 use lib.Dec.{leb, eqb}
 use lib.ListN.{length, getD}
 use Rattle.machine.specs.Test.{_and_, _or_}
 use Rattle.record.specs.Body.{traceOf}
-use Rattle.job.specs.Layout.{traces}
+use Rattle.job.specs.Layout.{traces, maxTraces}
 use Rattle.job.specs.Open.{fileRefusal, openBody}
 use Rattle.text.specs.Text.{put}
 use Rattle.report_figures.specs.declared.Line.{Line}
 use Rattle.report_figures.specs.Figures.{lineOf, met}
-use Rattle.report_lines.specs.Lines.{headerText, lineText, lastText}
+use Rattle.report_lines.specs.Lines.{headerText, lineText, lineBytes, lastText, lastBytes}
 use Rattle.report_text.specs.declared.whole.Reported.{Reported}
 
 -- one deadline stands for every trace; otherwise each trace has its own
@@ -37,9 +37,9 @@ reportText file deadlines =
     ++ linesText file deadlines (traces file)
     ++ lastText (metBelow file deadlines (traces file)) (traces file)
 
--- no report is longer: the header, 16 lines, and the last line, its numbers taken as ten digits
+-- no report is longer: the header, a line for each of 16 traces, and the last line
 abbrev pub longest : ℕ
-longest = 1365
+longest = lineBytes * suc maxTraces + lastBytes
 
 -- a number of deadlines that fits a number of traces
 unfoldable pub serves : ℕ → ℕ → Bool

@@ -5,6 +5,7 @@ ghost use lib.ListN.{length};
 ghost use Rattle.job.specs.Layout.{traces, maxTraces};
 ghost use Rattle.job.specs.Open.{fileRefusal};
 ghost use Rattle.text.specs.Text.{Wrote};
+ghost use Rattle.report_lines.specs.Lines.{lineBytes};
 ghost use Rattle.report_text.specs.Report.{
   longest,
   linesText,
@@ -16,14 +17,17 @@ ghost use Rattle.report_text.specs.Report.{
 };
 use crate::figures::line_at;
 use job::file_refusal;
+use job::table::MAX_TRACES;
 use little_endian::half;
 use report_figures::met_by;
+use report_lines::LAST_BYTES;
+use report_lines::LINE_BYTES;
 use report_lines::put_last;
 use report_lines::put_line;
 use text::put_text;
 
-// Room for any report: the header, 16 lines and the last line, its numbers taken as ten digits.
-pub const REPORT_BYTES: usize = 1365;
+// Room for any report: the header, a line for each trace and the last line.
+pub const REPORT_BYTES: usize = (MAX_TRACES as usize + 1) * LINE_BYTES + LAST_BYTES;
 
 // `traces` is 0 for a refused file, and `length` is 0 where no report was written.
 #[repr(C)]
@@ -39,8 +43,8 @@ struct Lines {
 }
 
 fn put_lines(file: &[u8], deadlines: &[u32], out: &mut [u8], at: usize, all: u32) -> Lines
-    requires { ⌜ (fileRefusal (now file) ≡ 0) × (all ≡ traces (now file)) × (at + 78 * all ≤ length (now out)) ⌝ }
-    ensures { λ r. ⌜ (r .met ≡ metBelow (now (file .entry)) (now (deadlines .entry)) all) × (r .end ≡ at + 78 * all) × Wrote at (linesText (now (file .entry)) (now (deadlines .entry)) all) (now (out .entry)) (now (out .exit)) (r .end) ⌝ }
+    requires { ⌜ (fileRefusal (now file) ≡ 0) × (all ≡ traces (now file)) × (at + lineBytes * all ≤ length (now out)) ⌝ }
+    ensures { λ r. ⌜ (r .met ≡ metBelow (now (file .entry)) (now (deadlines .entry)) all) × (r .end ≡ at + lineBytes * all) × Wrote at (linesText (now (file .entry)) (now (deadlines .entry)) all) (now (out .entry)) (now (out .exit)) (r .end) ⌝ }
 {
     let mut end = at;
     let mut met = 0;

@@ -26,8 +26,11 @@ decimalWithin zero n = []
 decimalWithin (suc k) n = cond (ltb n 10) ((48 + n) ∷ []) (decimalWithin k (n / 10) ++ ((48 + n % 10) ∷ []))
 
 -- ten digits suffice for 32 bits
+abbrev pub mostDigits : ℕ
+mostDigits = 10
+
 unfoldable pub decimal : ℕ → List ℕ
-decimal = decimalWithin 10
+decimal = decimalWithin mostDigits
 
 unfoldable pub spaces : ℕ → List ℕ
 spaces zero = []

@@ -2,7 +2,7 @@
 use mathlib.Core.Path.{_∙_}
 use native.Mathlib.Omega.{arith}
 use Rattle.text.proofs.Pieces.{wrote-then, decimal-short}
-use Rattle.report_lines.specs.Lines.{lineText}
+use Rattle.report_lines.specs.Lines.{lineText, lineBytes}
 use Rattle.report_lines.proofs.Columns.{ends, line-width, five-digits, seven-digits}
 use borrow.Author.Needs.{needs}
 use Rattle.report_lines.proofs.put_line.Statement.{statement}
@@ -184,7 +184,7 @@ returns c =
     let c₃₀ = c₂₆ .before .before .before .before in
     let c₃₃ = c₃₀ .before .before .before in
     let a = c₃₃ .args in
-    ends (a .at) 78 _ (a .out .now) (line-width (a .line) (c₃₃ .pre .0) (c₃₃ .pre .1))
+    ends (a .at) lineBytes _ (a .out .now) (line-width (a .line) (c₃₃ .pre .0) (c₃₃ .pre .1))
     (wrote-then _ _ _ _ (wrote-then _ _ _ _ (wrote-then _ _ _ _ (wrote-then _ _ _ _ (wrote-then _ _ _ _
     (wrote-then _ _ _ _ (wrote-then _ _ _ _ (c₃₀ .put-margin .ensures .1) (c₂₆ .put-column .ensures .1)) (c₂₂ .put-column2 .ensures .1))
     (c₁₈ .put-column3 .ensures .1)) (c₁₄ .put-column4 .ensures .1)) (c₁₀ .put-column5 .ensures .1)) (c₆ .put-column6 .ensures .1))

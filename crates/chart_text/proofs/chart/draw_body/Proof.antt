@@ -9,7 +9,7 @@ use Rattle.record.specs.Body.{traceOf, bodyRefusal}
 use Rattle.timing.specs.Answers.{bestWorstAnswer}
 use Rattle.timing.specs.declared.calls.BestAndWorst.{BestAndWorst}
 use Rattle.chart_lines.specs.Lines.{timesText}
-use Rattle.chart_rows.specs.Rows.{rowsText}
+use Rattle.chart_rows.specs.Rows.{lastRow, rowsText}
 use Rattle.chart_text.specs.Chart.{chartOf}
 use Rattle.text.proofs.Pieces.{wrote-then, as-text}
 use Rattle.chart_rows.proofs.Length.{rows-short}
@@ -59,7 +59,7 @@ returns c =
     let times = found .best-worst .ensures ∙ times-given _ (entry .pre .0) in
     let latest = ap (λ (t : BestAndWorst). t .worst) times in
     let earliest = ap (λ (t : BestAndWorst). t .best) times in
-    let last = rows .before .smaller .ensures ∙ ap (λ (t : ℕ). min t 1000) latest in
+    let last = rows .before .smaller .ensures ∙ ap (λ (t : ℕ). min t lastRow) latest in
     wrote-then _ _ _ _
     (wrote-then _ _ _ _
     (header .put-header .ensures)

@@ -7,7 +7,7 @@ use lib.ListN.{length}
 use Rattle.text.specs.Text.{Wrote}
 use Rattle.text.proofs.Pieces.{wrote-nothing, wrote-then, as-text}
 use Rattle.report_figures.specs.Figures.{met}
-use Rattle.report_lines.specs.Lines.{lineText}
+use Rattle.report_lines.specs.Lines.{lineText, lineBytes}
 use Rattle.report_text.specs.Report.{linesText, metBelow}
 use Rattle.report_text.proofs.Fits.{few-traces, line-small}
 use Rattle.report_text.proofs.whole.put_lines.Statement.{statement}
@@ -24,7 +24,7 @@ Inv-loop file deadlines out₀ at all end₀ met₀ t₀ out end met t =
     × (met ≡ metBelow file deadlines t)
     × (met ≤ t)
     × (length out ≡ length out₀)
-    × (end ≡ at + 78 * t)
+    × (end ≡ at + lineBytes * t)
     × Wrote at (linesText file deadlines t) out₀ out end
 
 abbrev μ-loop : tie.MeasureT-loop
@@ -100,7 +100,7 @@ returns c =
     let i = c .before .loop .inv in
     let end : c .before .loop .t ≡ a .all = omega (arith, c .loop-test .left, i .0) in (
       i .1 ∙ ap (metBelow (a .file .now) (a .deadlines .now)) end,
-      i .4 ∙ ap (λ (n : ℕ). a .at + 78 * n) end,
+      i .4 ∙ ap (λ (n : ℕ). a .at + lineBytes * n) end,
       as-text _ _ (ap (linesText (a .file .now) (a .deadlines .now)) end) (i .5),
     )
 
