@@ -1,8 +1,7 @@
 -- What is known of a file that is not declined, and how its refusal is put together.
-use Prim.Native.Nat.{ℕ, zero, suc, _+_, _*_, _-_, _<_, _≤_}
-use mathlib.Core.Bool.{Bool, true, false}
-use mathlib.Core.List.{List, []}
-use mathlib.Core.Path.{_≡_, refl, sym, ap, _∙_}
+use Prim.Native.Nat.{ℕ, _+_, _*_, _-_, _<_, _≤_}
+use mathlib.Core.List.{List}
+use mathlib.Core.Path.{_≡_, ap, _∙_}
 use borrow.Author.Tests.{leb-true, eqb-true, lt-ltb, le-ltb, eq-eqb, ne-eqb}
 use native.Mathlib.Omega.{arith}
 use lib.Dec.{eqb}
@@ -12,9 +11,9 @@ use Rattle.record.specs.Refusal.{_then_, _unless_, outOfRange}
 use Rattle.record.specs.Layout.{recordSize}
 use Rattle.record.proofs.Refusals.{then-first, then-second, then-none, stop, unless-passed}
 use Rattle.record.specs.Body.{recordRefusal}
-use Rattle.job.specs.Refusal.{wrongEnd, firstRefusal}
-use Rattle.job.specs.Layout.{traces, maxTraces, entryAt, offsetAt, countAt, maxCount, maxFile, startAt, bodyAt}
-use Rattle.job.specs.Open.{entryRefusal, tableRefusal, entriesRefusal, tracesRefusal, fileRefusal, openRefusal, openBody, boundsAt, locateAnswer}
+use Rattle.job.specs.Refusal.{wrongEnd}
+use Rattle.job.specs.Layout.{traces, maxTraces, entryAt, offsetAt, countAt, maxCount, maxFile, startAt}
+use Rattle.job.specs.Open.{entryRefusal, tableRefusal, entriesRefusal, tracesRefusal, fileRefusal, openRefusal, boundsAt, locateAnswer}
 use Rattle.job.specs.declared.table.Bounds.{Bounds}
 use Rattle.job.proofs.First.{first-at}
 use Rattle.job.proofs.Entries.{entry-count, entry-at, start-suc}

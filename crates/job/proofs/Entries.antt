@@ -1,19 +1,17 @@
 -- Table entries: when an entry is refused, and what is known of the entries of a table that is not refused.
-use Prim.Native.Nat.{ℕ, zero, suc, _+_, _*_, _<_, _≤_}
-use mathlib.Core.Bool.{Bool, true, false}
+use Prim.Native.Nat.{ℕ, suc, _+_, _*_, _<_, _≤_}
 use mathlib.Core.List.{List}
 use mathlib.Core.Path.{_≡_, refl, sym, ap, _∙_}
 use native.Mathlib.Nat.{suc-ne-zero}
 use native.Mathlib.Numerals.{add-one}
 use borrow.Author.Tests.{le-leb, lt-leb, eq-eqb, ne-eqb, leb-true, eqb-true}
-use lib.Dec.{leb, eqb}
 use Rattle.record.specs.Refusal.{_then_, _unless_}
 use Rattle.record.specs.Layout.{recordSize}
 use Rattle.record.proofs.Refusals.{then-first, then-second, unless-passed}
 use Rattle.job.specs.Refusal.{firstRefusal}
 use Rattle.job.specs.Layout.{traces, countAt, offsetAt, maxCount, bodyStart, startAt}
 use Rattle.job.specs.Open.{entryRefusal, entriesRefusal}
-use Rattle.job.proofs.First.{first-stop, first-at}
+use Rattle.job.proofs.First.{first-stop}
 
 module _ (file : List ℕ) (t : ℕ) where
   pub entry-large : maxCount < countAt file t → entryRefusal file t ≡ 5

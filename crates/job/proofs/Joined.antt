@@ -1,11 +1,11 @@
 -- The records of all traces stand one after the other, so checking them joined is checking them trace by trace.
-use Prim.Native.Nat.{ℕ, zero, suc, _+_, _*_, _/_, _-_, _<_, _≤_}
+use Prim.Native.Nat.{ℕ, zero, suc, _+_, _*_, _-_, _<_, _≤_}
 use mathlib.Core.Bool.{Bool, true, false, not}
 use mathlib.Core.List.{List}
-use mathlib.Core.Path.{_≡_, refl, sym, ap, ap₂, subst, _∙_}
+use mathlib.Core.Path.{_≡_, refl, sym, ap, ap₂, _∙_}
 use native.Mathlib.Omega.{arith}
-use native.Mathlib.Nat.{add-zero, add-suc, lt-trans, le-refl}
-use lib.ListN.{length, take, drop, length-drop}
+use native.Mathlib.Nat.{add-zero, add-suc, le-refl}
+use lib.ListN.{length, drop, length-drop}
 use lib.Seq.{getD-take, getD-drop, length-take-le}
 use Rattle.machine.specs.Test.{_and_, every, none}
 use Rattle.machine.proofs.Connectives.{and-true, none-same}
@@ -15,7 +15,7 @@ use Rattle.record.specs.Layout.{recordSize}
 use Rattle.record.specs.Body.{records, breaksAt, recordRefusal}
 use Rattle.record.proofs.Alike.{breaks-alike}
 use Rattle.job.specs.Refusal.{firstRefusal}
-use Rattle.job.specs.Layout.{traces, countAt, entryAt, before, bodyStart, startAt, bodyAt, recordsOf}
+use Rattle.job.specs.Layout.{traces, countAt, entryAt, before, startAt, bodyAt, recordsOf}
 use Rattle.job.specs.Open.{tracesRefusal}
 use Rattle.job.proofs.First.{first-zero, first-suc}
 use Rattle.job.proofs.Starts.{start-before, start-le}

@@ -1,8 +1,8 @@
 -- Where bodies start, by the number of instructions before them.
 use Prim.Native.Nat.{ℕ, zero, suc, _+_, _*_, _<_, _≤_}
 use mathlib.Core.Logic.{⊎-elim}
-use mathlib.Core.Path.{_≡_, refl, sym, ap, subst, _∙_}
-use native.Mathlib.Nat.{le-of-suc-le-suc, not-suc-le-zero, eq-or-lt-of-le, le-refl}
+use mathlib.Core.Path.{_≡_, refl, sym, ap, subst}
+use native.Mathlib.Nat.{le-of-suc-le-suc, eq-or-lt-of-le, le-refl}
 use native.Mathlib.Numerals.{add-one}
 use native.Mathlib.Omega.{arith}
 use Rattle.record.specs.Layout.{recordSize}

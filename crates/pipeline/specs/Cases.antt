@@ -1,11 +1,10 @@
 -- What Step answers for document 01's case D, as its bytes are printed.
-use mathlib.Core.List.{List, map}
+use mathlib.Core.List.{map}
 use mathlib.Core.Path.{_≡_}
 use lib.ListN.{take, drop}
 use Rattle.machine.specs.Cases.{chartOfD}
 use Rattle.encoding.specs.Cases.{bytesOfD}
 use Rattle.pipeline.specs.Step.{stepAnswer}
-use Rattle.pipeline.specs.declared.stepping.Stepped.{Stepped}
 
 -- From each row of D's chart Step accepts the body and the row, and gives the next row. Were every state refused, the claims on orderly states would
 -- hold all the same.

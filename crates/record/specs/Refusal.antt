@@ -1,6 +1,6 @@
 -- The refusal numbers of document 01, "What each call does and when it declines", each under its words; 0 is no refusal.
 use Prim.Native.Nat.{ℕ}
-use mathlib.Core.Bool.{Bool, true, false, cond}
+use mathlib.Core.Bool.{Bool, cond}
 use lib.Dec.{eqb}
 
 infixr 20 _then_

@@ -1,7 +1,7 @@
 -- Which records are within the rules, which have an unknown flag, and instructions as fields, both ways: document 01, "Job file and instruction
 -- record".
 use Prim.Native.Nat.{ℕ}
-use mathlib.Core.Bool.{Bool, true, false, not, cond, _||_, _&&_}
+use mathlib.Core.Bool.{Bool, not, cond, _||_, _&&_}
 use lib.Dec.{ltb, eqb}
 use Rattle.machine.specs.Instruction.{Kind, plain, load, store, branch, Flag, hit, miss, unknown, Instruction}
 use Rattle.record.specs.declared.layout.Fields.{Fields}

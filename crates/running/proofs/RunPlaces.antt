@@ -1,10 +1,8 @@
 -- Run's state gives every instruction its place: the states of a run do, whatever its length, and the starting state has everything in pre.
-use Prim.Native.Nat.{ℕ, _<_, min, zero-le}
+use Prim.Native.Nat.{min, zero-le}
 use mathlib.Core.Bool.{Bool, true, false, cond}
-use mathlib.Core.List.{List}
 use mathlib.Core.Path.{_≡_}
 use lib.Dec.{eqb}
-use lib.ListN.{length}
 use Rattle.machine.specs.Rules.{allPre, after}
 use Rattle.machine.specs.State.{start, placeOf}
 use Rattle.machine.specs.Time.{finish}

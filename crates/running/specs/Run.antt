@@ -1,6 +1,6 @@
 -- What Run answers: document 01, "What each call does and when it declines".
 use Prim.Native.Nat.{ℕ, min}
-use mathlib.Core.Bool.{Bool, false, cond}
+use mathlib.Core.Bool.{false, cond}
 use mathlib.Core.List.{List}
 use lib.Dec.{eqb}
 use Rattle.machine.specs.Instruction.{Trace}

@@ -9,7 +9,6 @@ use Rattle.machine.specs.Rules.{Stage, IF, ID, EX, MEM, ST, WB}
 use Rattle.machine.specs.declared.Slot.{Slot}
 use Rattle.machine.specs.declared.State.{State}
 use Rattle.machine.proofs.Connectives.{Value, passed, failed, value, and-failed-l, and-failed-r, and-true, or-failed}
-use Rattle.machine.proofs.Stages.{stageAt}
 use Rattle.machine.proofs.BySlots.{holdsBack, heldBack}
 use Rattle.machine.proofs.Hazards.{pending, waitsFor}
 use Rattle.record.specs.declared.layout.Fields.{Fields}

@@ -1,10 +1,10 @@
 -- What Finish, Best and worst, Margin and Alike answer: document 01, "What each call does and when it declines". "A refusal gives its number, zeros
 -- for numbers, no for a yes or no".
 use Prim.Native.Nat.{ℕ}
-use mathlib.Core.Bool.{Bool, true, false, cond}
+use mathlib.Core.Bool.{false, cond}
 use mathlib.Core.List.{List}
 use lib.Dec.{eqb}
-use lib.IntN.{ℤ, pos, _-ℤ_}
+use lib.IntN.{pos, _-ℤ_}
 use Rattle.machine.specs.Time.{finish, best, worst}
 use Rattle.record.specs.Refusal.{_then_}
 use Rattle.record.specs.Body.{traceOf, bodyRefusal, settledRefusal}

@@ -1,14 +1,13 @@
 -- The bytes of a written file: the header, each entry, and the records, where document 01 puts them.
-use Prim.Native.Nat.{ℕ, zero, suc, _+_, _*_, _/_, _%_, _<_, _≤_}
-use mathlib.Core.List.{List, [], _∷_, _++_}
+use Prim.Native.Nat.{ℕ, zero, suc, _+_, _*_, _/_, _%_, _<_}
+use mathlib.Core.List.{List, _++_}
 use mathlib.Core.Logic.{⊎-elim}
-use mathlib.Core.Path.{_≡_, refl, sym, ap, ap₂, subst, _∙_}
+use mathlib.Core.Path.{_≡_, refl, sym, ap, ap₂, _∙_}
 use native.Mathlib.Nat.{le-of-suc-le-suc, not-suc-le-zero, eq-or-lt-of-le, add-assoc}
 use native.Mathlib.Omega.{arith}
-use lib.ListN.{length, take, drop, length-append, List·getD-append}
+use lib.ListN.{length, drop, length-append, List·getD-append}
 use lib.Seq.{getD-append-add, drop-append-add}
-use Rattle.little_endian.specs.Numbers.{byte, half, word, halfBytes, wordBytes}
-use Rattle.record.specs.Layout.{recordSize}
+use Rattle.little_endian.specs.Numbers.{byte, halfBytes}
 use Rattle.little_endian.proofs.Halves.{half-of-bytes}
 use Rattle.job.specs.Layout.{headerSize, entrySize, countInEntry, entryAt, traces, countAt, offsetAt, bodyStart, recordsOf}
 use Rattle.writer.specs.Write.{count, entryBytes, tableOf, fileOf}

@@ -1,16 +1,14 @@
 -- An accepted file is, byte for byte, what Write makes of its counts and its records, and Write accepts these.
 use Prim.Native.Nat.{ℕ, zero, suc, _+_, _*_, _-_, _/_, _%_, _<_, _≤_}
-use mathlib.Core.Bool.{Bool, true, false}
 use mathlib.Core.List.{List, [], _∷_, _++_}
 use mathlib.Core.Path.{_≡_, refl, sym, ap, ap₂, subst, _∙_}
 use borrow.Author.Tests.{le-leb, le-ltb, eq-eqb}
 use native.Mathlib.Decide.{decLt}
 use native.Mathlib.Nat.{le-refl}
 use native.Mathlib.Omega.{arith}
-use lib.ListN.{length, take, drop, length-drop}
+use lib.ListN.{length, length-drop}
 use lib.Seq.{getD-drop, ext-getD}
-use Rattle.record.specs.Refusal.{_then_, _unless_}
-use Rattle.little_endian.specs.Numbers.{byte, half, word, halfBytes, wordBytes}
+use Rattle.little_endian.specs.Numbers.{byte, halfBytes, wordBytes}
 use Rattle.record.specs.Layout.{recordSize}
 use Rattle.record.specs.Body.{Bytes, firsts, recordRefusal}
 use Rattle.record.proofs.Refusals.{go-on, passes, last-passes}
@@ -18,13 +16,12 @@ use Rattle.machine.proofs.Connectives.{none-below}
 use Rattle.record.proofs.Instructions.{length-firsts, getD-firsts}
 use Rattle.little_endian.proofs.Halves.{low-of-half, high-of-half}
 use Rattle.job.specs.Refusal.{shortOutput}
-use Rattle.job.specs.Layout.{headerSize, entrySize, maxTraces, maxCount, maxFile, traces, countAt, offsetAt, entryAt, before, bodyStart, startAt, recordsOf}
-use Rattle.job.specs.Open.{fileRefusal}
+use Rattle.job.specs.Layout.{headerSize, entrySize, maxTraces, maxCount, maxFile, traces, countAt, offsetAt, entryAt, before, bodyStart, recordsOf}
 use Rattle.writer.specs.Write.{count, sum, fileLength, entryBytes, countsRefusal, fileOf, writeRefusal}
 use Rattle.writer.specs.RoundTrip.{countsOf}
 use Rattle.job.proofs.Starts.{start-before, before-same}
 use Rattle.job.proofs.Joined.{joined}
-use Rattle.job.proofs.Accepted.{FileFine, file-fine}
+use Rattle.job.proofs.Accepted.{FileFine}
 use Rattle.writer.proofs.WriteAnswer.{length-file}
 use Rattle.writer.proofs.FileBytes.{byte-entry, byte-record}
 

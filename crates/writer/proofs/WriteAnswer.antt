@@ -1,13 +1,10 @@
 -- What is known of counts and records that Write accepts, and its answer and output in each case.
-use Prim.Native.Nat.{ℕ, zero, suc, _+_, _*_, _<_, _≤_}
-use mathlib.Core.Bool.{Bool, true, false}
-use mathlib.Core.List.{List, [], _++_, append-assoc}
+use Prim.Native.Nat.{ℕ, _+_, _*_, _<_, _≤_}
+use mathlib.Core.List.{List, _++_}
 use mathlib.Core.Path.{_≡_, refl, sym, ap, ap₂, _∙_}
 use borrow.Author.Tests.{leb-true, eqb-true, ltb-false, eq-eqb, ne-eqb}
 use native.Mathlib.Omega.{arith}
-use lib.Dec.{ltb}
 use lib.ListN.{length, take, drop, length-append}
-use Rattle.machine.specs.Test.{none}
 use Rattle.record.specs.Layout.{recordSize}
 use Rattle.little_endian.specs.Numbers.{halfBytes}
 use Rattle.record.specs.Body.{recordRefusal}

@@ -1,27 +1,25 @@
 -- A file that Write makes is accepted, and each of its bodies is the records of that trace.
-use Prim.Native.Nat.{ℕ, zero, suc, _+_, _*_, _<_, _≤_}
-use mathlib.Core.Bool.{true}
+use Prim.Native.Nat.{ℕ, _+_, _*_, _<_, _≤_}
 use mathlib.Core.List.{List}
 use mathlib.Core.Path.{_≡_, refl, sym, ap, ap₂, subst, _∙_}
 use borrow.Author.Tests.{le-leb, eq-eqb}
 use native.Mathlib.Omega.{arith}
 use lib.ListN.{length, take, drop}
 use lib.Seq.{drop-drop}
-use Rattle.record.specs.Refusal.{_then_, _unless_}
 use Rattle.record.specs.Layout.{recordSize}
 use Rattle.record.specs.Body.{recordRefusal}
 use Rattle.record.proofs.Refusals.{go-on, passes, last-passes}
-use Rattle.job.specs.Refusal.{cutTable, firstRefusal}
-use Rattle.job.specs.Layout.{headerSize, maxTraces, maxFile, traces, countAt, entryAt, before, bodyStart, startAt, bodyAt, recordsOf}
-use Rattle.job.specs.Open.{tableRefusal, entriesRefusal, tracesRefusal, fileRefusal, openRefusal, openBody}
-use Rattle.writer.specs.Write.{count, sum, fileLength, fileOf, writeRefusal}
+use Rattle.job.specs.Refusal.{cutTable}
+use Rattle.job.specs.Layout.{headerSize, maxTraces, maxFile, traces, countAt, entryAt, before, bodyStart, startAt}
+use Rattle.job.specs.Open.{tableRefusal, entriesRefusal, tracesRefusal, fileRefusal, openBody}
+use Rattle.writer.specs.Write.{count, fileLength, fileOf}
 use Rattle.writer.specs.RoundTrip.{recordsAt}
 use Rattle.job.proofs.First.{first-none}
 use Rattle.job.proofs.Entries.{entry-fine}
 use Rattle.job.proofs.Starts.{start-before, before-same}
 use Rattle.job.proofs.Joined.{joined}
 use Rattle.job.proofs.Accepted.{open-accepted}
-use Rattle.writer.proofs.WriteAnswer.{WriteFine, write-fine, last-end, length-file}
+use Rattle.writer.proofs.WriteAnswer.{WriteFine, last-end, length-file}
 use Rattle.writer.proofs.FileBytes.{file-traces, file-count, file-offset, file-records}
 
 module _ (counts records : List ℕ) (room : ℕ) (fine : WriteFine counts records room) where

@@ -5,10 +5,6 @@ use borrow.Author.Needs.{needs}
 use native.Mathlib.Omega.{arith}
 use Rattle.acceptance.proofs.body_refusal.Statement.{statement}
 use Rattle.acceptance.proofs.body_refusal.Tie as tie
-use Rattle.acceptance.proofs.body_refusal.Reads as reads
-use Rattle.acceptance.proofs.body_refusal.Lts as lts
-use Rattle.acceptance.proofs.length_refusal.Reads as length-refusal-reads
-use Rattle.acceptance.proofs.record_refusal.Reads as record-refusal-reads
 
 length-refusal-requires : tie.Need-length-refusal-requires
 length-refusal-requires c κs = search needs

@@ -11,8 +11,6 @@ use mathlib.Core.Path.{_≡_}
 use Prim.Native.Nat.{ℕ, _%_, _≤_, _<_}
 use Rattle.acceptance.proofs.length_refusal.Statement.{statement}
 use Rattle.acceptance.proofs.length_refusal.Tie as tie
-use Rattle.acceptance.proofs.length_refusal.Reads as reads
-use Rattle.acceptance.proofs.length_refusal.Lts as lts
 
 -- the answer from what the tests mean, so that the proof does not depend on how the code writes them
 module _ (body : List ℕ) where

@@ -3,11 +3,6 @@ use Rattle.chart_text.proofs.Drawn.{chart-inside}
 use borrow.Author.Needs.{needs}
 use Rattle.chart_command.proofs.main.Statement.{statement}
 use Rattle.chart_command.proofs.main.Tie as tie
-use Rattle.chart_command.proofs.main.Reads as reads
-use Rattle.chart_command.proofs.main.Lts as lts
-use Rattle.chart_text.proofs.draw.Reads as draw-reads
-use Rattle.io.proofs.read_full.Reads as read-full-reads
-use Rattle.io.proofs.write_all.Reads as write-all-reads
 
 slice-aggregate-read-full : tie.Need-slice-aggregate-read-full
 slice-aggregate-read-full c = search needs

@@ -7,11 +7,6 @@ use lib.ListN.{length}
 use Rattle.deadlines.proofs.Words.{digit-within, Reading, reading-starts, reading-goes, word-empty, word-stray, word-large, word-read}
 use Rattle.deadlines.proofs.deadline_of.Statement.{statement}
 use Rattle.deadlines.proofs.deadline_of.Tie as tie
-use Rattle.deadlines.proofs.deadline_of.Reads as reads
-use Rattle.deadlines.proofs.deadline_of.Lts as lts
-use Rattle.deadlines.proofs.is_digit.Reads as is-digit-reads
-use Rattle.deadlines.proofs.no_deadline.Reads as no-deadline-reads
-use Rattle.deadlines.proofs.wide.Reads as wide-reads
 
 abbrev Inv-loop : tie.InvT-loop
 Inv-loop word cycles₀ i₀ cycles i = (i ≤ length word) × (cycles < 4294967296) × Reading word i cycles

@@ -4,8 +4,6 @@ use borrow.Author.Needs.{needs}
 use Rattle.deadlines.specs.Deadline.{isDigit}
 use Rattle.deadlines.proofs.is_digit.Statement.{statement}
 use Rattle.deadlines.proofs.is_digit.Tie as tie
-use Rattle.deadlines.proofs.is_digit.Reads as reads
-use Rattle.deadlines.proofs.is_digit.Lts as lts
 
 returns : tie.Need-returns
 unfolding isDigit _and_

@@ -3,11 +3,6 @@ use Rattle.chart_text.proofs.Drawn.{chart-inside}
 use borrow.Author.Needs.{needs}
 use Rattle.example_charts.proofs.agrees.Statement.{statement}
 use Rattle.example_charts.proofs.agrees.Tie as tie
-use Rattle.example_charts.proofs.agrees.Reads as reads
-use Rattle.example_charts.proofs.agrees.Lts as lts
-use Rattle.example_charts.proofs.read_named.Reads as read-named-reads
-use Rattle.example_charts.proofs.same.Reads as same-reads
-use Rattle.chart_text.proofs.draw.Reads as draw-reads
 
 slice-aggregate-read-named : tie.Need-slice-aggregate-read-named
 slice-aggregate-read-named c = search needs

@@ -3,10 +3,6 @@ use Prim.Native.Nat.{_+_, _-_, _≤_}
 use native.Mathlib.Omega.{arith}
 use Rattle.example_charts.proofs.main.Statement.{statement}
 use Rattle.example_charts.proofs.main.Tie as tie
-use Rattle.example_charts.proofs.main.Reads as reads
-use Rattle.example_charts.proofs.main.Lts as lts
-use Rattle.example_charts.proofs.tell.Reads as tell-reads
-use Rattle.os.proofs.arg_count.Reads as arg-count-reads
 
 abbrev Inv-loop : tie.InvT-loop
 Inv-loop count i₀ i = i ≤ count + 1

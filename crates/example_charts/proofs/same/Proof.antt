@@ -4,8 +4,6 @@ use native.Mathlib.Omega.{arith}
 use lib.ListN.{length}
 use Rattle.example_charts.proofs.same.Statement.{statement}
 use Rattle.example_charts.proofs.same.Tie as tie
-use Rattle.example_charts.proofs.same.Reads as reads
-use Rattle.example_charts.proofs.same.Lts as lts
 
 abbrev Inv-loop : tie.InvT-loop
 Inv-loop a b i₀ i = i ≤ length a

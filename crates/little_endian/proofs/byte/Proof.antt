@@ -5,9 +5,6 @@ use Prim.Native.Nat.{ℕ}
 use borrow.Author.Needs.{needs}
 use Rattle.little_endian.proofs.byte.Statement.{statement}
 use Rattle.little_endian.proofs.byte.Tie as tie
-use Rattle.little_endian.proofs.byte.Reads as reads
-use Rattle.little_endian.proofs.byte.Lts as lts
-use Rattle.little_endian.proofs.byte_at.Reads as byte-at-reads
 
 byte-at-requires : tie.Need-byte-at-requires
 byte-at-requires c κs = search needs

@@ -3,9 +3,6 @@ use borrow.Author.Needs.{needs}
 use native.Mathlib.Omega.{arith}
 use Rattle.little_endian.proofs.half_at.Statement.{statement}
 use Rattle.little_endian.proofs.half_at.Tie as tie
-use Rattle.little_endian.proofs.half_at.Reads as reads
-use Rattle.little_endian.proofs.half_at.Lts as lts
-use Rattle.little_endian.proofs.byte_at.Reads as byte-at-reads
 
 byte-at-requires : tie.Need-byte-at-requires
 byte-at-requires c κs = search needs

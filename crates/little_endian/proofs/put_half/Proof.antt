@@ -4,12 +4,10 @@ use lib.ListN.{length-set}
 use native.Mathlib.Omega.{arith}
 use native.Mathlib.Numerals.{add-one}
 use mathlib.Core.List.{_∷_, []}
-use Prim.Native.Nat.{ℕ, _/_, _%_}
+use Prim.Native.Nat.{_/_, _%_}
 use borrow.Author.Needs.{needs}
 use Rattle.little_endian.proofs.put_half.Statement.{statement}
 use Rattle.little_endian.proofs.put_half.Tie as tie
-use Rattle.little_endian.proofs.put_half.Reads as reads
-use Rattle.little_endian.proofs.put_half.Lts as lts
 
 cast-out : tie.Need-cast-out
 cast-out c = search needs

@@ -4,12 +4,10 @@ use lib.ListN.{length-set}
 use native.Mathlib.Omega.{arith}
 use native.Mathlib.Numerals.{add-one, add-two, add-three}
 use mathlib.Core.List.{_∷_, []}
-use Prim.Native.Nat.{ℕ, _/_, _%_}
+use Prim.Native.Nat.{_/_, _%_}
 use borrow.Author.Needs.{needs}
 use Rattle.little_endian.proofs.put_word.Statement.{statement}
 use Rattle.little_endian.proofs.put_word.Tie as tie
-use Rattle.little_endian.proofs.put_word.Reads as reads
-use Rattle.little_endian.proofs.put_word.Lts as lts
 
 cast-out : tie.Need-cast-out
 cast-out c = search needs

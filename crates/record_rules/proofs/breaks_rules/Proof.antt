@@ -1,5 +1,4 @@
 -- `breaks_rules` meets its contract: the limits that depend on the kind are the rules.
-use native.Mathlib.Omega.{arith}
 use borrow.Author.Needs.{needs}
 use Rattle.record_rules.proofs.Limits.{limits}
 use Rattle.record_rules.proofs.breaks_rules.Statement.{statement}

@@ -6,14 +6,6 @@ use lib.Seq.{length-take-le}
 use borrow.Author.Needs.{needs}
 use Rattle.report_command.proofs.main.Statement.{statement}
 use Rattle.report_command.proofs.main.Tie as tie
-use Rattle.report_command.proofs.main.Reads as reads
-use Rattle.report_command.proofs.main.Lts as lts
-use Rattle.os.proofs.arg_count.Reads as arg-count-reads
-use Rattle.report_command.proofs.print_report.Reads as print-report-reads
-use Rattle.report_command.proofs.read_deadlines.Reads as read-deadlines-reads
-use Rattle.report_command.proofs.tell.no_deadline.Reads as no-deadline-reads
-use Rattle.report_command.proofs.tell.too_many.Reads as too-many-reads
-use Rattle.report_command.proofs.tell.usage.Reads as usage-reads
 
 arg-count-requires : tie.Need-arg-count-requires
 arg-count-requires c κs = search needs

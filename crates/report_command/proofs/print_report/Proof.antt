@@ -3,13 +3,6 @@ use Rattle.report_text.proofs.Given.{report-inside}
 use borrow.Author.Needs.{needs}
 use Rattle.report_command.proofs.print_report.Statement.{statement}
 use Rattle.report_command.proofs.print_report.Tie as tie
-use Rattle.report_command.proofs.print_report.Reads as reads
-use Rattle.report_command.proofs.print_report.Lts as lts
-use Rattle.io.proofs.read_full.Reads as read-full-reads
-use Rattle.io.proofs.write_all.Reads as write-all-reads
-use Rattle.report_command.proofs.tell.misfit.Reads as misfit-reads
-use Rattle.report_command.proofs.tell.refusal.Reads as refusal-reads
-use Rattle.report_text.proofs.report.Reads as report-reads
 
 slice-aggregate-read-full : tie.Need-slice-aggregate-read-full
 slice-aggregate-read-full c = search needs

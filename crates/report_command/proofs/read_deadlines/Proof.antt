@@ -5,10 +5,6 @@ use native.Mathlib.Omega.{arith}
 use lib.ListN.{length}
 use Rattle.report_command.proofs.read_deadlines.Statement.{statement}
 use Rattle.report_command.proofs.read_deadlines.Tie as tie
-use Rattle.report_command.proofs.read_deadlines.Reads as reads
-use Rattle.report_command.proofs.read_deadlines.Lts as lts
-use Rattle.report_command.proofs.deadline_in.Reads as deadline-in-reads
-use Rattle.report_command.proofs.keep.Reads as keep-reads
 
 abbrev Inv-loop : tie.InvT-loop
 Inv-loop last deadlines₀ i₀ deadlines i = (i ≤ last) × (length deadlines ≡ length deadlines₀)

@@ -1,6 +1,5 @@
 -- `line_of` meets its contract: for an accepted body, Best and worst answers with the definition's times.
 use mathlib.Core.Path.{refl, sym, ap, _∙_}
-use native.Mathlib.Omega.{arith}
 use Rattle.machine.specs.Time.{best, worst}
 use Rattle.record.specs.Rules.{flagOf}
 use Rattle.record.proofs.Accepted.{few-records}
@@ -11,10 +10,6 @@ use Rattle.report_figures.specs.Figures.{lineOf}
 use borrow.Author.Needs.{needs}
 use Rattle.report_figures.proofs.line_of.Statement.{statement}
 use Rattle.report_figures.proofs.line_of.Tie as tie
-use Rattle.report_figures.proofs.line_of.Reads as reads
-use Rattle.report_figures.proofs.line_of.Lts as lts
-use Rattle.report_figures.proofs.unknown_flags.Reads as unknown-flags-reads
-use Rattle.timing.proofs.best_worst.Reads as best-worst-reads
 
 best-worst-requires : tie.Need-best-worst-requires
 best-worst-requires c κs = search needs

@@ -5,8 +5,6 @@ use mathlib.Core.Path.{refl}
 use Rattle.report_figures.specs.Figures.{met}
 use Rattle.report_figures.proofs.met_by.Statement.{statement}
 use Rattle.report_figures.proofs.met_by.Tie as tie
-use Rattle.report_figures.proofs.met_by.Reads as reads
-use Rattle.report_figures.proofs.met_by.Lts as lts
 
 returns : tie.Need-returns
 unfolding met

@@ -14,10 +14,6 @@ use Rattle.report_figures.specs.Figures.{isUnknown, unknownFlags}
 use Rattle.report_figures.proofs.Flags.{unknown-more}
 use Rattle.report_figures.proofs.unknown_flags.Statement.{statement}
 use Rattle.report_figures.proofs.unknown_flags.Tie as tie
-use Rattle.report_figures.proofs.unknown_flags.Reads as reads
-use Rattle.report_figures.proofs.unknown_flags.Lts as lts
-use Rattle.record.proofs.fields_at.Reads as fields-at-reads
-use Rattle.report_figures.proofs.unknowns_of.Reads as unknowns-of-reads
 
 -- the first k instructions of a body
 read-first : List ℕ → ℕ → Trace

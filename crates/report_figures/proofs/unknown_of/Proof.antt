@@ -4,8 +4,6 @@ use native.Mathlib.Omega.{arith}
 use mathlib.Core.Path.{sym}
 use Rattle.report_figures.proofs.unknown_of.Statement.{statement}
 use Rattle.report_figures.proofs.unknown_of.Tie as tie
-use Rattle.report_figures.proofs.unknown_of.Reads as reads
-use Rattle.report_figures.proofs.unknown_of.Lts as lts
 
 returns : tie.Need-returns
 returns c = (sym (flag-unknown _ (c .if1 .taken)), omega arith)

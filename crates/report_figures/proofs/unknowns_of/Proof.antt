@@ -3,9 +3,6 @@ use native.Mathlib.Omega.{arith}
 use borrow.Author.Needs.{needs}
 use Rattle.report_figures.proofs.unknowns_of.Statement.{statement}
 use Rattle.report_figures.proofs.unknowns_of.Tie as tie
-use Rattle.report_figures.proofs.unknowns_of.Reads as reads
-use Rattle.report_figures.proofs.unknowns_of.Lts as lts
-use Rattle.report_figures.proofs.unknown_of.Reads as unknown-of-reads
 
 unknown-of-requires : tie.Need-unknown-of-requires
 unknown-of-requires c κs = search needs

@@ -11,10 +11,6 @@ use Rattle.report_lines.proofs.Columns.{column-width}
 use borrow.Author.Needs.{needs}
 use Rattle.report_lines.proofs.put_column.Statement.{statement}
 use Rattle.report_lines.proofs.put_column.Tie as tie
-use Rattle.report_lines.proofs.put_column.Reads as reads
-use Rattle.report_lines.proofs.put_column.Lts as lts
-use Rattle.text.proofs.put_padding.Reads as put-padding-reads
-use Rattle.text.proofs.put_right.Reads as put-right-reads
 
 put-padding-requires : tie.Need-put-padding-requires
 put-padding-requires c κs = search needs

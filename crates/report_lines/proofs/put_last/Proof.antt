@@ -5,10 +5,6 @@ use Rattle.report_lines.specs.Lines.{lastText}
 use borrow.Author.Needs.{needs}
 use Rattle.report_lines.proofs.put_last.Statement.{statement}
 use Rattle.report_lines.proofs.put_last.Tie as tie
-use Rattle.report_lines.proofs.put_last.Reads as reads
-use Rattle.report_lines.proofs.put_last.Lts as lts
-use Rattle.text.proofs.put_decimal.Reads as put-decimal-reads
-use Rattle.text.proofs.put_text.Reads as put-text-reads
 
 put-decimal-requires : tie.Need-put-decimal-requires
 put-decimal-requires c κs = omega (arith, c .before .before .pre, decimal-short (c .before .before .args .met))

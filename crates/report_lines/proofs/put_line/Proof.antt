@@ -7,11 +7,6 @@ use Rattle.report_lines.proofs.Columns.{ends, line-width, five-digits, 
 use borrow.Author.Needs.{needs}
 use Rattle.report_lines.proofs.put_line.Statement.{statement}
 use Rattle.report_lines.proofs.put_line.Tie as tie
-use Rattle.report_lines.proofs.put_line.Reads as reads
-use Rattle.report_lines.proofs.put_line.Lts as lts
-use Rattle.report_lines.proofs.put_column.Reads as put-column-reads
-use Rattle.report_lines.proofs.put_margin.Reads as put-margin-reads
-use Rattle.text.proofs.put_byte.Reads as put-byte-reads
 
 put-margin-requires : tie.Need-put-margin-requires
 put-margin-requires c κs = search needs

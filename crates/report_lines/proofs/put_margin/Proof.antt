@@ -7,10 +7,6 @@ use Rattle.report_lines.proofs.Columns.{ends, margin-none, margin-over,
 use borrow.Author.Needs.{needs}
 use Rattle.report_lines.proofs.put_margin.Statement.{statement}
 use Rattle.report_lines.proofs.put_margin.Tie as tie
-use Rattle.report_lines.proofs.put_margin.Reads as reads
-use Rattle.report_lines.proofs.put_margin.Lts as lts
-use Rattle.report_lines.proofs.put_signed.Reads as put-signed-reads
-use Rattle.text.proofs.put_right.Reads as put-right-reads
 
 put-right-requires : tie.Need-put-right-requires
 put-right-requires c κs = let digits = decimal-short 0 in (omega arith, c .before .before .before .pre)

@@ -7,12 +7,6 @@ use Rattle.text.proofs.Right.{length-spaces, wrote-right}
 use borrow.Author.Needs.{needs}
 use Rattle.report_lines.proofs.put_signed.Statement.{statement}
 use Rattle.report_lines.proofs.put_signed.Tie as tie
-use Rattle.report_lines.proofs.put_signed.Reads as reads
-use Rattle.report_lines.proofs.put_signed.Lts as lts
-use Rattle.text.proofs.digits.Reads as digits-reads
-use Rattle.text.proofs.put_padding.Reads as put-padding-reads
-use Rattle.text.proofs.put_byte.Reads as put-byte-reads
-use Rattle.text.proofs.put_decimal.Reads as put-decimal-reads
 
 digits-requires : tie.Need-digits-requires
 digits-requires c κs = search needs

@@ -1,7 +1,6 @@
 -- `draw_refusal` meets its contract.
 use native.Mathlib.Omega.{arith}
-use mathlib.Core.List.{List, [], _∷_}
-use Prim.Native.Nat.{ℕ}
+use mathlib.Core.List.{[], _∷_}
 use borrow.Author.Needs.{needs}
 use Rattle.text.proofs.Pieces.{wrote-then}
 use Rattle.chart_lines.specs.Lines.{refusalText}

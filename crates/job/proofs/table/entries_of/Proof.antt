@@ -1,20 +1,16 @@
 -- `entries_of` meets its contract. The loop's invariant: no entry so far is refused, and `end` is where the next body starts.
 use Rattle.job.proofs.Entries.{entry-large, entry-offset, entry-fine, start-zero, start-more, entries-stop, entries-pass}
-use Rattle.job.proofs.First.{first-zero, first-more, first-stop}
-use Rattle.job.specs.Open.{entryRefusal, entriesRefusal}
+use Rattle.job.proofs.First.{first-zero, first-more}
+use Rattle.job.specs.Open.{entryRefusal}
 use Rattle.record.specs.Layout.{recordSize}
 use Rattle.job.specs.Layout.{maxTraces, maxCount, entryAt, startAt}
 use Rattle.job.specs.Refusal.{firstRefusal}
 use borrow.Author.Needs.{needs}
 use native.Mathlib.Omega.{arith}
 use mathlib.Core.Path.{_≡_, sym, _∙_, ap, ap₂}
-use Prim.Native.Nat.{ℕ, _+_, _*_, _-_, _≤_, _<_}
+use Prim.Native.Nat.{ℕ, _+_, _*_, _-_, _≤_}
 use Rattle.job.proofs.table.entries_of.Statement.{statement}
 use Rattle.job.proofs.table.entries_of.Tie as tie
-use Rattle.job.proofs.table.entries_of.Reads as reads
-use Rattle.job.proofs.table.entries_of.Lts as lts
-use Rattle.little_endian.proofs.half.Reads as half-reads
-use Rattle.little_endian.proofs.word.Reads as word-reads
 
 abbrev Inv-loop : tie.InvT-loop
 Inv-loop file count end₀ t₀ end t = (t ≤ count) × (end ≡ startAt file t) × (firstRefusal (entryRefusal file) t ≡ 0) × (end ≤ entryAt maxTraces + recordSize * maxCount * t)

@@ -1,24 +1,14 @@
 -- `file_refusal` meets its contract: the refusals in their order, with one check of the records of all traces.
-use Rattle.job.specs.Layout.{traces, startAt, entryAt}
-use lib.ListN.{length, drop}
-use mathlib.Core.List.{List}
+use Rattle.job.specs.Layout.{startAt}
 use Rattle.job.proofs.Accepted.{TableFine, table-fine, records-checked}
 use Rattle.job.specs.Open.{fileRefusal}
 use Rattle.record.proofs.Refusals.{stop, go-on}
 use Rattle.record.specs.Refusal.{_then_, _unless_}
-use borrow.Author.Tests.{eq-eqb, ne-eqb}
-use native.Mathlib.Omega.{arith}
-use mathlib.Core.Path.{_≡_, sym, _∙_, ap}
-use Prim.Native.Nat.{ℕ, _+_, _*_, _≤_}
+use borrow.Author.Tests.{ne-eqb}
+use mathlib.Core.Path.{sym, _∙_, ap}
 use borrow.Author.Needs.{needs}
 use Rattle.job.proofs.table.file_refusal.Statement.{statement}
 use Rattle.job.proofs.table.file_refusal.Tie as tie
-use Rattle.job.proofs.table.file_refusal.Reads as reads
-use Rattle.job.proofs.table.file_refusal.Lts as lts
-use Rattle.job.proofs.table.entries_of.Reads as entries-of-reads
-use Rattle.job.proofs.table.table_refusal.Reads as table-refusal-reads
-use Rattle.acceptance.proofs.record_refusal.Reads as record-refusal-reads
-use Rattle.little_endian.proofs.half.Reads as half-reads
 
 table-refusal-requires : tie.Need-table-refusal-requires
 table-refusal-requires c κs = search needs

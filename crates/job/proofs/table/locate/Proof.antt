@@ -1,7 +1,7 @@
 -- `locate` meets its contract: a file that is refused, a trace number that is too large, or a body that is there.
 use Rattle.job.proofs.Accepted.{locate-refused, locate-found, open-out, open-declined}
 use native.Mathlib.Omega.{arith}
-use mathlib.Core.Path.{_≡_, sym, _∙_}
+use mathlib.Core.Path.{sym, _∙_}
 use Rattle.job.proofs.table.locate.Statement.{statement}
 use Rattle.job.proofs.table.locate.Tie as tie
 

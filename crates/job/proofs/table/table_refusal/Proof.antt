@@ -5,9 +5,6 @@ use borrow.Author.Tests.{le-leb, lt-leb}
 use borrow.Author.Needs.{needs}
 use Rattle.job.proofs.table.table_refusal.Statement.{statement}
 use Rattle.job.proofs.table.table_refusal.Tie as tie
-use Rattle.job.proofs.table.table_refusal.Reads as reads
-use Rattle.job.proofs.table.table_refusal.Lts as lts
-use Rattle.little_endian.proofs.half.Reads as half-reads
 
 cast-if1 : tie.Need-cast-if1
 cast-if1 c = search needs

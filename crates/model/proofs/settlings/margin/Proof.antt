@@ -1,6 +1,6 @@
 -- `model::settlings::margin` is safe: what a number of 32 bits is turned into by a minus fits 64 signed bits..
 use Prim.Native.Nat.{ℕ, zero, suc, _<_, _-_, _^_}
-use mathlib.Core.Path.{_≡_, sym, subst}
+use mathlib.Core.Path.{sym, subst}
 use native.Mathlib.Omega.{arith}
 use lib.IntN.{pos, negℤ, _-ℤ_, +ℤ-idl}
 use mir.Syntax.{w64}

@@ -3,9 +3,6 @@ use Prim.Native.Nat.{_-_, _≤_}
 use native.Mathlib.Omega.{arith}
 use Rattle.random.proofs.print.refusals.Statement.{statement}
 use Rattle.random.proofs.print.refusals.Tie as tie
-use Rattle.random.proofs.print.refusals.Reads as reads
-use Rattle.random.proofs.print.refusals.Lts as lts
-use Rattle.random.proofs.print.refusal_line.Reads as refusal-line-reads
 
 abbrev Inv-loop : tie.InvT-loop
 Inv-loop seen i₀ i = i ≤ 15

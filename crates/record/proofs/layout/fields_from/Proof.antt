@@ -1,15 +1,5 @@
 -- `fields_from` meets its contract, field by field.
-use Rattle.record.specs.Layout.{
-  flagsAt,
-  kindAt,
-  source1At,
-  source2At,
-  targetAt,
-  executionAt,
-  fetchLatencyAt,
-  dataLatencyAt,
-  fieldsFrom,
-}
+use Rattle.record.specs.Layout.{flagsAt, kindAt, source1At, source2At, targetAt, executionAt, fetchLatencyAt, dataLatencyAt, fieldsFrom}
 use Rattle.little_endian.specs.Numbers.{byte, half}
 use Rattle.record.specs.declared.layout.Fields.{Fields}
 use mathlib.Core.List.{List}
@@ -18,10 +8,6 @@ use Prim.Native.Nat.{ℕ, _+_, _/_, _%_}
 use borrow.Author.Needs.{needs}
 use Rattle.record.proofs.layout.fields_from.Statement.{statement}
 use Rattle.record.proofs.layout.fields_from.Tie as tie
-use Rattle.record.proofs.layout.fields_from.Reads as reads
-use Rattle.record.proofs.layout.fields_from.Lts as lts
-use Rattle.little_endian.proofs.byte_at.Reads as byte-at-reads
-use Rattle.little_endian.proofs.half_at.Reads as half-at-reads
 
 -- one equation for each field, so that a wrong field is refused at its own line
 same

@@ -6,8 +6,6 @@ use Rattle.report_text.specs.Report.{deadlineAt}
 use borrow.Author.Needs.{needs}
 use Rattle.report_text.proofs.figures.deadline_at.Statement.{statement}
 use Rattle.report_text.proofs.figures.deadline_at.Tie as tie
-use Rattle.report_text.proofs.figures.deadline_at.Reads as reads
-use Rattle.report_text.proofs.figures.deadline_at.Lts as lts
 
 shared-slice-read-result : tie.Need-shared-slice-read-result
 shared-slice-read-result c = search needs

@@ -12,11 +12,6 @@ use Rattle.report_text.specs.Report.{linesText, metBelow}
 use Rattle.report_text.proofs.Fits.{few-traces, line-small}
 use Rattle.report_text.proofs.whole.put_lines.Statement.{statement}
 use Rattle.report_text.proofs.whole.put_lines.Tie as tie
-use Rattle.report_text.proofs.whole.put_lines.Reads as reads
-use Rattle.report_text.proofs.whole.put_lines.Lts as lts
-use Rattle.report_text.proofs.figures.line_at.Reads as line-at-reads
-use Rattle.report_figures.proofs.met_by.Reads as met-by-reads
-use Rattle.report_lines.proofs.put_line.Reads as put-line-reads
 
 abbrev Inv-loop : tie.InvT-loop
 Inv-loop file deadlines out₀ at all end₀ met₀ t₀ out end met t =

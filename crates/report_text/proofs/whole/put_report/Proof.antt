@@ -7,11 +7,6 @@ use Rattle.report_text.specs.Report.{linesText, metBelow, reportText}
 use borrow.Author.Needs.{needs}
 use Rattle.report_text.proofs.whole.put_report.Statement.{statement}
 use Rattle.report_text.proofs.whole.put_report.Tie as tie
-use Rattle.report_text.proofs.whole.put_report.Reads as reads
-use Rattle.report_text.proofs.whole.put_report.Lts as lts
-use Rattle.report_lines.proofs.put_last.Reads as put-last-reads
-use Rattle.report_text.proofs.whole.put_lines.Reads as put-lines-reads
-use Rattle.text.proofs.put_text.Reads as put-text-reads
 
 slice-aggregate-put-text : tie.Need-slice-aggregate-put-text
 slice-aggregate-put-text c = search needs

@@ -8,12 +8,6 @@ use Rattle.report_text.proofs.Given.{refused, unserved, cramped, report
 use borrow.Author.Needs.{needs}
 use Rattle.report_text.proofs.whole.report.Statement.{statement}
 use Rattle.report_text.proofs.whole.report.Tie as tie
-use Rattle.report_text.proofs.whole.report.Reads as reads
-use Rattle.report_text.proofs.whole.report.Lts as lts
-use Rattle.job.proofs.file_refusal.Reads as file-refusal-reads
-use Rattle.little_endian.proofs.half.Reads as half-reads
-use Rattle.report_text.proofs.whole.put_report.Reads as put-report-reads
-use Rattle.report_text.proofs.whole.serve.Reads as serve-reads
 
 file-refusal-requires : tie.Need-file-refusal-requires
 file-refusal-requires c κs = search needs

@@ -4,8 +4,6 @@ use borrow.Author.Needs.{needs}
 use Rattle.report_text.specs.Report.{serves}
 use Rattle.report_text.proofs.whole.serve.Statement.{statement}
 use Rattle.report_text.proofs.whole.serve.Tie as tie
-use Rattle.report_text.proofs.whole.serve.Reads as reads
-use Rattle.report_text.proofs.whole.serve.Lts as lts
 
 returns : tie.Need-returns
 unfolding serves _or_

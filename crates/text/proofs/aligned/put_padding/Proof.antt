@@ -8,9 +8,6 @@ use native.Mathlib.Omega.{arith}
 use lib.ListN.{length}
 use Rattle.text.proofs.aligned.put_padding.Statement.{statement}
 use Rattle.text.proofs.aligned.put_padding.Tie as tie
-use Rattle.text.proofs.aligned.put_padding.Reads as reads
-use Rattle.text.proofs.aligned.put_padding.Lts as lts
-use Rattle.text.proofs.put.put_byte.Reads as put-byte-reads
 
 abbrev Inv-loop : tie.InvT-loop
 Inv-loop out₀ at taken width next₀ i₀ out next i = (taken ≤ i) × (i - taken ≤ width - taken) × (length out ≡ length out₀) × Wrote at (spaces (i - taken)) out₀ out next

@@ -5,11 +5,6 @@ use Rattle.text.proofs.Right.{length-spaces, wrote-right}
 use borrow.Author.Needs.{needs}
 use Rattle.text.proofs.aligned.put_right.Statement.{statement}
 use Rattle.text.proofs.aligned.put_right.Tie as tie
-use Rattle.text.proofs.aligned.put_right.Reads as reads
-use Rattle.text.proofs.aligned.put_right.Lts as lts
-use Rattle.text.proofs.aligned.digits.Reads as digits-reads
-use Rattle.text.proofs.aligned.put_padding.Reads as put-padding-reads
-use Rattle.text.proofs.put.put_decimal.Reads as put-decimal-reads
 
 digits-requires : tie.Need-digits-requires
 digits-requires c κs = search needs

@@ -5,9 +5,6 @@ use Rattle.text.specs.Text.{put}
 use borrow.Author.Needs.{needs}
 use Rattle.text.proofs.put.put_text.Statement.{statement}
 use Rattle.text.proofs.put.put_text.Tie as tie
-use Rattle.text.proofs.put.put_text.Reads as reads
-use Rattle.text.proofs.put.put_text.Lts as lts
-use Rattle.bytes.proofs.copy.Reads as copy-reads
 
 sub-copy : tie.Need-sub-copy
 sub-copy c = search needs

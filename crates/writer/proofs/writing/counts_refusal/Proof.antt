@@ -10,12 +10,9 @@ use borrow.Author.Tests.{lt-ltb, le-ltb}
 use borrow.Author.Needs.{needs}
 use mathlib.Core.Path.{_≡_}
 use mathlib.Core.Bool.{true}
-use Prim.Native.Nat.{ℕ, _≤_, _-_}
+use Prim.Native.Nat.{_≤_, _-_}
 use Rattle.writer.proofs.writing.counts_refusal.Statement.{statement}
 use Rattle.writer.proofs.writing.counts_refusal.Tie as tie
-use Rattle.writer.proofs.writing.counts_refusal.Reads as reads
-use Rattle.writer.proofs.writing.counts_refusal.Lts as lts
-use Rattle.writer.proofs.writing.wide.Reads as wide-reads
 
 abbrev Inv-loop : tie.InvT-loop
 Inv-loop counts t₀ t = (t ≤ length counts) × (none (λ k. ltb maxCount (count counts k)) t ≡ true)

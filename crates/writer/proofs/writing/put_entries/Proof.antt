@@ -10,13 +10,9 @@ use native.Mathlib.Omega.{arith}
 use borrow.Author.Needs.{needs}
 use mathlib.Core.Path.{_≡_, refl, sym, ap, ap₂, _∙_}
 use mathlib.Core.List.{_++_}
-use Prim.Native.Nat.{ℕ, _+_, _*_, _-_, _≤_, _<_}
+use Prim.Native.Nat.{ℕ, _+_, _*_, _-_, _≤_}
 use Rattle.writer.proofs.writing.put_entries.Statement.{statement}
 use Rattle.writer.proofs.writing.put_entries.Tie as tie
-use Rattle.writer.proofs.writing.put_entries.Reads as reads
-use Rattle.writer.proofs.writing.put_entries.Lts as lts
-use Rattle.writer.proofs.writing.put_entry.Reads as put-entry-reads
-use Rattle.writer.proofs.writing.wide.Reads as wide-reads
 
 abbrev Inv-loop : tie.InvT-loop
 Inv-loop counts out₀ at₀ offset₀ t₀ out at offset t =

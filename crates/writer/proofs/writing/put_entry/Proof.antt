@@ -6,10 +6,6 @@ use mathlib.Core.Path.{_∙_}
 use borrow.Author.Needs.{needs}
 use Rattle.writer.proofs.writing.put_entry.Statement.{statement}
 use Rattle.writer.proofs.writing.put_entry.Tie as tie
-use Rattle.writer.proofs.writing.put_entry.Reads as reads
-use Rattle.writer.proofs.writing.put_entry.Lts as lts
-use Rattle.little_endian.proofs.put_half.Reads as put-half-reads
-use Rattle.little_endian.proofs.put_word.Reads as put-word-reads
 
 put-word-requires : tie.Need-put-word-requires
 put-word-requires c κs = search needs

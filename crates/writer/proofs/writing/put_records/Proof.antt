@@ -3,9 +3,6 @@ use Rattle.little_endian.proofs.Placed.{put-part}
 use borrow.Author.Needs.{needs}
 use Rattle.writer.proofs.writing.put_records.Statement.{statement}
 use Rattle.writer.proofs.writing.put_records.Tie as tie
-use Rattle.writer.proofs.writing.put_records.Reads as reads
-use Rattle.writer.proofs.writing.put_records.Lts as lts
-use Rattle.bytes.proofs.copy.Reads as copy-reads
 
 sub-copy : tie.Need-sub-copy
 sub-copy c = search needs

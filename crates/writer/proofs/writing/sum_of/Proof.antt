@@ -5,13 +5,10 @@ use Rattle.job.specs.Layout.{before}
 use lib.ListN.{length}
 use native.Mathlib.Omega.{arith}
 use borrow.Author.Needs.{needs}
-use mathlib.Core.Path.{_≡_, refl, sym, ap, ap₂, _∙_}
+use mathlib.Core.Path.{_≡_, sym, ap, ap₂, _∙_}
 use Prim.Native.Nat.{ℕ, _+_, _*_, _≤_, _-_}
 use Rattle.writer.proofs.writing.sum_of.Statement.{statement}
 use Rattle.writer.proofs.writing.sum_of.Tie as tie
-use Rattle.writer.proofs.writing.sum_of.Reads as reads
-use Rattle.writer.proofs.writing.sum_of.Lts as lts
-use Rattle.writer.proofs.writing.wide.Reads as wide-reads
 
 abbrev Inv-loop : tie.InvT-loop
 Inv-loop counts total₀ t₀ total t = (t ≤ length counts) × (total ≡ before (count counts) t) × (total ≤ 65535 * t)

@@ -1,20 +1,11 @@
 -- `write` meets its contract: a refusal, or header, table and records written one after the other.
-use Rattle.writer.proofs.WriteAnswer.{WriteFine, write-fine, last-end, write-refused, write-done}
-use Rattle.writer.specs.Write.{count, fileLength}
-use Rattle.job.specs.Layout.{maxFile, entryAt, bodyStart}
-use lib.ListN.{length}
+use Rattle.writer.proofs.WriteAnswer.{write-fine, last-end, write-refused, write-done}
+use Rattle.writer.specs.Write.{fileLength}
 use native.Mathlib.Omega.{arith}
-use mathlib.Core.Path.{_≡_, sym, subst, _∙_}
-use Prim.Native.Nat.{ℕ, _+_, _*_, _≤_, _<_}
+use mathlib.Core.Path.{sym, _∙_}
 use borrow.Author.Needs.{needs}
 use Rattle.writer.proofs.writing.write.Statement.{statement}
 use Rattle.writer.proofs.writing.write.Tie as tie
-use Rattle.writer.proofs.writing.write.Reads as reads
-use Rattle.writer.proofs.writing.write.Lts as lts
-use Rattle.writer.proofs.writing.put_entries.Reads as put-entries-reads
-use Rattle.little_endian.proofs.put_half.Reads as put-half-reads
-use Rattle.writer.proofs.writing.put_records.Reads as put-records-reads
-use Rattle.writer.proofs.writing.write_refusal.Reads as write-refusal-reads
 
 write-refusal-requires : tie.Need-write-refusal-requires
 write-refusal-requires c κs = search needs

@@ -3,16 +3,11 @@ use Rattle.record.specs.Layout.{recordSize}
 use Rattle.writer.specs.Write.{fileLength, writeRefusal}
 use Rattle.record.proofs.Refusals.{stop, go-on, fails, passes, last-fails, last-passes}
 use borrow.Author.Tests.{le-leb, lt-leb, eq-eqb, ne-eqb}
-use mathlib.Core.Path.{_≡_, sym, _∙_, ap}
-use Prim.Native.Nat.{ℕ, _+_, _*_}
+use mathlib.Core.Path.{sym, _∙_, ap}
+use Prim.Native.Nat.{ℕ, _*_}
 use borrow.Author.Needs.{needs}
 use Rattle.writer.proofs.writing.write_refusal.Statement.{statement}
 use Rattle.writer.proofs.writing.write_refusal.Tie as tie
-use Rattle.writer.proofs.writing.write_refusal.Reads as reads
-use Rattle.writer.proofs.writing.write_refusal.Lts as lts
-use Rattle.writer.proofs.writing.counts_refusal.Reads as counts-refusal-reads
-use Rattle.writer.proofs.writing.sum_of.Reads as sum-of-reads
-use Rattle.acceptance.proofs.record_refusal.Reads as record-refusal-reads
 
 cast-if1 : tie.Need-cast-if1
 cast-if1 c = search needs
