@@ -58,7 +58,14 @@ mul-offset-2 : tie.Need-mul-offset-2 Inv-loop μ-loop
 mul-offset-2 c = omega arith
 
 add-offset-2 : tie.Need-add-offset-2 Inv-loop μ-loop
-add-offset-2 c = let counts = c .before .before .before .before .before .before .before .before .before .before .args .counts .now in let t = c .before .before .before .before .before .before .before .loop .t in let h = start-le (length counts) (count counts) (t + 1) (length counts) (omega arith) in let e = start-more (length counts) (count counts) t in omega (arith, h, e, c .before .before .before .before .wide .ensures .0, c .before .before .before .before .before .before .before .loop .inv .2)
+add-offset-2 c =
+    let c₄ = c .before .before .before .before in
+    let c₇ = c₄ .before .before .before in
+    let counts = c₇ .before .before .before .args .counts .now in
+    let t = c₇ .loop .t in
+    let h = start-le (length counts) (count counts) (t + 1) (length counts) (omega arith) in
+    let e = start-more (length counts) (count counts) t in
+    omega (arith, h, e, c₄ .wide .ensures .0, c₇ .loop .inv .2)
 
 add-t : tie.Need-add-t Inv-loop μ-loop
 add-t c = omega arith
@@ -67,7 +74,27 @@ loop-less : tie.Need-loop-less Inv-loop μ-loop
 loop-less c = omega arith
 
 loop-again : tie.Need-loop-again Inv-loop μ-loop
-loop-again c = let counts = c .before .before .before .before .before .before .before .before .before .before .args .counts .now in let o = c .before .before .before .before .before .before .before .before .before .before .args .out .now in let room : 2 ≤ length o = omega (arith, c .before .before .before .before .before .before .before .before .before .before .pre) in (omega arith, omega arith, ap₂ (λ (a b : ℕ). a + recordSize * b) (c .before .before .before .before .before .before .before .loop .inv .2) (c .before .before .before .before .wide .ensures .0) ∙ sym (start-more (length counts) (count counts) (c .before .before .before .before .before .before .before .loop .t)), c .before .before .put-entry .kept .0 ∙ c .before .before .before .before .before .before .before .loop .inv .3, entries-more counts o (c .before .before .before .before .before .before .before .loop .out) _ (c .before .before .before .before .before .before .before .loop .t) (c .before .before .before .before .before .before .before .loop .at) _ _ room (c .before .before .before .before .before .before .before .loop .inv .1) (c .before .before .before .before .before .before .before .loop .inv .2) (c .before .before .before .before .wide .ensures .0) (c .before .before .before .before .before .before .before .loop .inv .4) (c .before .before .put-entry .ensures))
+loop-again c =
+    let c₄ = c .before .before .before .before in
+    let c₇ = c₄ .before .before .before in
+    let c₁₀ = c₇ .before .before .before in
+    let counts = c₁₀ .args .counts .now in
+    let o = c₁₀ .args .out .now in
+    let put = c .before .before .put-entry in
+    let loop = c₇ .loop in
+    let room : 2 ≤ length o = omega (arith, c₁₀ .pre) in
+    let started = sym (start-more (length counts) (count counts) (loop .t)) in (
+      omega arith,
+      omega arith,
+      ap₂ (λ (a b : ℕ). a + recordSize * b) (loop .inv .2) (c₄ .wide .ensures .0) ∙ started,
+      put .kept .0 ∙ loop .inv .3,
+      entries-more counts o (loop .out) _ (loop .t) (loop .at) _ _ room
+          (loop .inv .1)
+          (loop .inv .2)
+          (c₄ .wide .ensures .0)
+          (loop .inv .4)
+          (put .ensures),
+    )
 
 same-length : tie.Need-same-length Inv-loop μ-loop
 same-length c = c .before .loop .inv .3
