@@ -16,7 +16,7 @@ use Rattle.record.proofs.Refusals.{then-none, then-first, then-second, 
 use Rattle.machine.proofs.Connectives.{none-at, none-below}
 use Rattle.record.proofs.Within.{or-false, Within, within, flags-within, sized}
 
-and-true : (a b : Bool) → (a && b) ≡ true → (a ≡ true) × (b ≡ true)
+pub and-true : (a b : Bool) → (a && b) ≡ true → (a ≡ true) × (b ≡ true)
 and-true true b e = (refl, e)
 and-true false b e = (e, cc)
 

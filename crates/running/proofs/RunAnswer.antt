@@ -14,8 +14,6 @@ use Rattle.machine.specs.State.{start, stateOf}
 use Rattle.machine.specs.declared.State.{State}
 use Rattle.machine.proofs.Numbers.{Tri, less, equal, more, tri}
 use Rattle.machine.proofs.Finish.{all-left-is}
-use Rattle.machine.proofs.Window.{windowBefore}
-use Rattle.machine.proofs.WindowTimes.{window-finish}
 use Rattle.machine.proofs.RunStates.{stateAfter, run-stops-state}
 use Rattle.record.specs.Body.{Bytes, traceOf, settledRefusal}
 use Rattle.settling.proofs.Settled.{settled-already}
@@ -39,35 +37,42 @@ pub state-ran : (trace : Trace) (limit : ℕ) {r : Ran} → r ≡ ranFor trace l
 unfolding ranFor
 state-ran trace limit e = ap (λ (r : Ran). r .state) e ∙ run-stops-state trace limit
 
-module _ (trace : Trace) (limit : ℕ) {r : Fetched} {seats : List ℕ} (at : Stopped trace limit r seats) {state : State} (read : state ≡ stateSeated seats (r .count)) where
-  abbrev k : ℕ
-  k = r .count
+module _ (trace : Trace) (limit : ℕ) {r : Fetched} {seats : List ℕ} (at : Stopped trace limit r seats) where
+  -- all are fetched by the limit, or not
+  data Ends : Type 0 where
+    every-one : r .count ≡ length trace → Ends
+    not-every-one : r .count < length trace → Ends
 
-  state-is : stateBelow (after trace limit) k ≡ stateAfter trace limit → state ≡ stateOf trace (after trace (min limit (finish trace)))
-  state-is end = read ∙ at .passed .state ∙ end ∙ sym (run-stops-state trace limit)
+  ends : Ends
+  ends = by (tri (r .count) (length trace))
+    where
+      by : Tri (r .count) (length trace) → Ends
+      by (less h) = not-every-one h
+      by (equal h) = every-one h
+      by (more h) = absurd (omega (arith, at .inside))
 
-  -- not all are fetched by the limit
-  pub ran-on : k < length trace → record { refusal = 0; state = state; cycles = limit; left = false } ≡ ranFor trace limit
-  unfolding ranFor
-  ran-on inside =
-      let h = goes-on trace limit k inside (at .waits inside) in
-      let placed = state-is (ends-unfetched trace limit k inside (at .waits inside)) in
-      let counted : limit ≡ min limit (finish trace) = omega arith in
-      let left = sym (lt-leb (finish trace) limit h) ∙ left-is trace limit in
-      λ x. record { refusal = 0; state = placed x; cycles = counted x; left = left x }
+  state-is : Ends → stateBelow (after trace limit) (r .count) ≡ stateAfter trace limit
+  state-is (every-one h) = ends-after-all trace limit (r .count) h
+  state-is (not-every-one h) = ends-unfetched trace limit (r .count) h (at .waits h .0)
 
-  -- all are
-  pub ran-out
-      : k ≡ length trace →
-      {cycles : ℕ} →
+  cycles-are : Ends → min limit (r .finish) ≡ min limit (finish trace)
+  cycles-are (every-one h) = ap (min limit) (at .all h)
+  cycles-are (not-every-one h) = omega (arith, at .waits h .1, goes-on trace limit (r .count) h (at .waits h .0))
+
+  left-are : Ends → leb (r .finish) limit ≡ leb (finish trace) limit
+  left-are (every-one h) = ap (λ (m : ℕ). leb m limit) (at .all h)
+  left-are (not-every-one h) = lt-leb (r .finish) limit (at .waits h .1) ∙ sym (lt-leb (finish trace) limit (goes-on trace limit (r .count) h (at .waits h .0)))
+
+  pub ran
+      : {state : State} {cycles : ℕ} →
+      state ≡ stateSeated seats (r .count) →
       cycles ≡ min limit (r .finish) →
       record { refusal = 0; state = state; cycles = cycles; left = leb (r .finish) limit } ≡ ranFor trace limit
   unfolding ranFor
-  ran-out all counts =
-      let end = at .finish ∙ ap (λ (n : ℕ). windowBefore trace n .finish) all ∙ window-finish trace in
-      let placed = state-is (ends-after-all trace limit k all) in
-      let counted = counts ∙ ap (min limit) end in
-      let left = ap (λ (m : ℕ). leb m limit) end ∙ left-is trace limit in
+  ran read counts =
+      let placed = read ∙ at .passed .state ∙ state-is ends ∙ sym (run-stops-state trace limit) in
+      let counted = counts ∙ cycles-are ends in
+      let left = left-are ends ∙ left-is trace limit in
       λ x. record { refusal = 0; state = placed x; cycles = counted x; left = left x }
 
 module _ (body : List ℕ) (limit : ℕ) {refusal : ℕ} (e : refusal ≡ settledRefusal body) where

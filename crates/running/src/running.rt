@@ -8,7 +8,6 @@ ghost use Rattle.running.specs.Run.{ranFor, runAnswer};
 use acceptance::settled_refusal;
 use decode::HIT;
 use machine::State;
-use record::count;
 use seats::SEATS;
 use seats::seated;
 use under_way::pass;
@@ -29,27 +28,17 @@ fn smaller(a: u32, b: u32) -> u32
     if a < b { a } else { b }
 }
 
-// The run of an accepted body whose unknown flags become the flag `to`. Where not all are fetched by
-// the limit, the run is not over, and the limit is the number of cycles run. An inner function: a
-// chart takes its rows from it, with unknown flags as misses.
+// The run of an accepted body whose unknown flags become the flag `to`. An inner function: a chart takes
+// its rows from it, with unknown flags as misses.
 pub fn run_settled(body: &[u8], to: u32, limit: u32) -> Ran
     requires { ⌜ bodyRefusal (now body) ≡ 0 ⌝ }
     ensures { λ r. ⌜ r ≡ ranFor (settle (flagOf to) (traceOf (now (body .entry)))) limit ⌝ }
 {
     let mut seats = [0u32; SEATS];
     let fetched = pass(body, to, limit, &mut seats);
-    let state = seated(&seats, fetched.count);
-    if fetched.count < count(body) {
-        return Ran {
-            refusal: 0,
-            state,
-            cycles: limit,
-            left: false,
-        };
-    }
     Ran {
         refusal: 0,
-        state,
+        state: seated(&seats, fetched.count),
         cycles: smaller(limit, fetched.finish),
         left: fetched.finish <= limit,
     }

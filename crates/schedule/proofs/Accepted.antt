@@ -1,4 +1,4 @@
--- What a pass over an accepted body needs: the trace's bound is within the limit, and at each instruction the functions of `levels` may be called and
+-- What a pass over an accepted body needs: the trace's bound is within the limit, and at each instruction the functions of this crate may be called and
 -- lead to the next.
 use Prim.Native.Nat.{ℕ, zero, suc, _+_, _≤_, _<_}
 use mathlib.Core.List.{List}

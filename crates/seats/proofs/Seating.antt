@@ -16,7 +16,15 @@ use Rattle.machine.proofs.Window.{Times, lastCount, placeAt}
 use Rattle.places.specs.Inner.{numbered}
 use Rattle.places.specs.declared.places.Place as Code
 use Rattle.places.proofs.Cases.{in-post}
-use Rattle.seats.specs.Inner.{fetchedWith, slotWith, stateWith, slotOf, slotSeated, stateSeated, Seated, Rising}
+use Rattle.seats.specs.Inner.{fetchedWith, slotWith, stateWith, slotOf, slotSeated, stateSeated, Seated}
+
+-- no time is later than that of leaving
+pub record Rising (e : Times) : Type 0 where
+  pub IF : e .IF ≤ e .post
+  pub ID : e .ID ≤ e .post
+  pub EX : e .EX ≤ e .post
+  pub MEM : e .MEM ≤ e .post
+  pub last : e .last ≤ e .post
 
 -- a list written out element by element
 abbrev spelled : ℕ → List ℕ → List ℕ

@@ -1,5 +1,5 @@
 -- The numbers in which Run's pass keeps a state, for the pass's own functions; no public contract cites them.
-use Prim.Native.Nat.{ℕ, zero, suc, _+_, _≤_}
+use Prim.Native.Nat.{ℕ, zero, suc, _+_}
 use mathlib.Core.Bool.{true, cond}
 use mathlib.Core.List.{List}
 use mathlib.Core.Path.{_≡_}
@@ -10,7 +10,6 @@ use Rattle.machine.specs.State.{emptySlot}
 use Rattle.machine.specs.declared.Slot.{Slot}
 use Rattle.machine.specs.declared.State.{State}
 use Rattle.machine.proofs.Stages.{stageNumber}
-use Rattle.machine.proofs.Window.{Times}
 use Rattle.places.specs.declared.places.Place.{Place}
 
 -- a state with instruction k added at its place
@@ -58,11 +57,3 @@ stateSeated seats fetched =
 pub record Seated (seats : List ℕ) (fetched : ℕ) (s : State) : Type 0 where
   pub long : length seats ≡ 13
   pub state : stateSeated seats fetched ≡ s
-
--- no time is later than that of leaving
-pub record Rising (e : Times) : Type 0 where
-  pub IF : e .IF ≤ e .post
-  pub ID : e .ID ≤ e .post
-  pub EX : e .EX ≤ e .post
-  pub MEM : e .MEM ≤ e .post
-  pub last : e .last ≤ e .post

@@ -9,7 +9,7 @@ ghost use Rattle.machine.proofs.Window.{placeAt};
 ghost use Rattle.record.specs.Rules.{instructionOf};
 ghost use Rattle.schedule.specs.Inner.{timesOf};
 ghost use Rattle.places.specs.Inner.{numbered};
-ghost use Rattle.seats.specs.Inner.{Rising, stateWith, slotSeated, stateSeated, Seated};
+ghost use Rattle.seats.specs.Inner.{stateWith, slotSeated, stateSeated, Seated};
 use machine::Slot;
 use machine::State;
 use machine::stage::EX;
@@ -27,18 +27,15 @@ pub const SEATS: usize = 13;
 // How far after a seat its count is.
 const COUNTS: usize = 6;
 
-// Seats instruction k, which is fetched by the limit, unless it has left by then. Most have, which
-// the time of leaving tells without computing a place.
+// Seats instruction k, which is fetched by the limit and has not left by then.
 pub fn seat(seats: &mut [u32; SEATS], f: Fields, e: Times, limit: u32, k: u32)
-    requires { ⌜ (length (now seats) ≡ 13) × Rising (timesOf e) × (e .IF ≤ limit) × (k + 1 < 2 ^ 32) ⌝ }
+    requires { ⌜ (length (now seats) ≡ 13) × (e .IF ≤ limit) × (limit < e .post) × (k + 1 < 2 ^ 32) ⌝ }
     ensures { λ _. ⌜ Seated (now (seats .exit)) (k + 1) (stateWith (numbered (placeAt (instructionOf f) (timesOf e) limit)) k (stateSeated (now (seats .entry)) k)) ⌝ }
 {
-    if limit < e.post {
-        let p = place_at(f, e, limit);
-        let at = p.stage as usize;
-        seats[at] = k + 1;
-        seats[COUNTS + at] = p.count;
-    }
+    let p = place_at(f, e, limit);
+    let at = p.stage as usize;
+    seats[at] = k + 1;
+    seats[COUNTS + at] = p.count;
 }
 
 fn slot_at(seats: &[u32; SEATS], stage: u32) -> Slot

@@ -11,7 +11,7 @@ use acceptance::body_refusal;
 use acceptance::settled_refusal;
 use decode::HIT;
 use decode::MISS;
-use finishing::finish_settled;
+use passing::finish_settled;
 
 #[repr(C)]
 pub struct Finished {

@@ -5,9 +5,9 @@ use mathlib.Core.Path.{_≡_}
 use lib.ListN.{length}
 use Rattle.machine.specs.Instruction.{Trace}
 use Rattle.machine.specs.Rules.{Places, pre, IF, ID, EX, MEM, ST, WB, after}
+use Rattle.machine.specs.Time.{finish}
 use Rattle.machine.specs.State.{fetchedBelow, occupantBelow}
 use Rattle.machine.specs.declared.State.{State}
-use Rattle.machine.proofs.Window.{windowBefore}
 use Rattle.seats.specs.Inner.{Seated}
 use Rattle.under_way.specs.declared.seating.Fetched.{Fetched}
 
@@ -28,9 +28,9 @@ stateBelow places k =
 abbrev pub Passed : Trace → ℕ → ℕ → List ℕ → Type 0
 Passed trace limit k seats = Seated seats k (stateBelow (after trace limit) k)
 
--- the pass has ended: there is no further instruction, or the next is not fetched by the limit
+-- the pass has ended: after the last instruction it has the finishing time, and at one that is not fetched by the limit a time that is past it
 pub record Stopped (trace : Trace) (limit : ℕ) (r : Fetched) (seats : List ℕ) : Type 0 where
   pub passed : Passed trace limit (r .count) seats
-  pub finish : r .finish ≡ windowBefore trace (r .count) .finish
   pub inside : r .count ≤ length trace
-  pub waits : r .count < length trace → after trace limit (r .count) .stage ≡ pre
+  pub all : r .count ≡ length trace → r .finish ≡ finish trace
+  pub waits : r .count < length trace → (after trace limit (r .count) .stage ≡ pre) × (limit < r .finish)

@@ -1,7 +1,7 @@
--- `seat` meets its contract: by its time of leaving an instruction that is fetched is in post or in a slot, and so it is in the numbers.
+-- `seat` meets its contract: an instruction that is fetched and has not left is in a slot, and so it is in the numbers.
 use native.Mathlib.Omega.{arith}
 use borrow.Author.Needs.{needs}
-use Rattle.seats.proofs.Seating.{within-seats, seat-slot, seat-post}
+use Rattle.seats.proofs.Seating.{within-seats, seat-slot}
 use Rattle.seats.proofs.seats.seat.Statement.{statement}
 use Rattle.seats.proofs.seats.seat.Tie as tie
 
@@ -18,7 +18,9 @@ mul-seats : tie.Need-mul-seats
 mul-seats c = search needs
 
 element-write-seats : tie.Need-element-write-seats
-element-write-seats c = omega (arith, within-seats _ _ _ (c .before .before .before .before .pre .2) (c .before .before .if1 .taken) (c .before .place-at .ensures))
+element-write-seats c =
+    let p = c .before .before .pre in
+    omega (arith, within-seats _ _ _ (p .1) (p .2) (c .before .place-at .ensures))
 
 add-seats-2 : tie.Need-add-seats-2
 add-seats-2 c = search needs
@@ -27,17 +29,14 @@ mul-seats-2 : tie.Need-mul-seats-2
 mul-seats-2 c = search needs
 
 element-write-seats-2 : tie.Need-element-write-seats-2
-element-write-seats-2 c = omega (arith, within-seats _ _ _ (c .before .before .before .before .pre .2) (c .before .before .if1 .taken) (c .before .place-at .ensures))
+element-write-seats-2 c =
+    let p = c .before .before .pre in
+    omega (arith, within-seats _ _ _ (p .1) (p .2) (c .before .place-at .ensures))
 
 returns : tie.Need-returns
 returns c =
-    let p = c .before .before .before .before .pre in
-    seat-slot _ _ (p .0) _ _ _ (p .2) (c .before .before .if1 .taken) (c .before .place-at .ensures)
-
-returns-2 : tie.Need-returns-2
-returns-2 c =
     let p = c .before .before .pre in
-    seat-post _ _ (p .0) _ _ _ (p .1) (p .2) (c .if1 .left)
+    seat-slot _ _ (p .0) _ _ _ (p .1) (p .2) (c .before .place-at .ensures)
 
 pub seat-spec : {M : Type 1} → statement M
 seat-spec =
@@ -51,5 +50,4 @@ seat-spec =
     add-seats-2
     mul-seats-2
     element-write-seats-2
-    returns
-    returns-2)
+    returns)

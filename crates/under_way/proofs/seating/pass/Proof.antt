@@ -1,29 +1,27 @@
--- `pass` meets its contract. The loop's invariant: the pass has come to instruction k.
-use Prim.Native.Nat.{ℕ, _-_, _<_, _≤_}
-use mathlib.Core.Path.{_≡_, ap, subst}
+-- `pass` meets its contract. The loop's invariant: the pass has come to an instruction that has not left by the limit, or to the end.
+use Prim.Native.Nat.{ℕ, _-_, _<_, _≤_, zero-le}
+use mathlib.Core.Path.{_≡_, sym, ap, subst, _∙_}
 use native.Mathlib.Omega.{arith}
 use borrow.Author.Needs.{needs}
 use Rattle.machine.specs.Time.{settle}
-use Rattle.machine.proofs.Window as Theory
-use Rattle.machine.proofs.Window.{windowBefore}
 use Rattle.record.specs.Rules.{flagOf}
-use Rattle.record.specs.Body.{Bytes, traceOf}
+use Rattle.record.specs.Body.{traceOf}
 use Rattle.record.proofs.Accepted.{few-records}
-use Rattle.entering.specs.Inner.{windowOf}
-use Rattle.schedule.proofs.Accepted.{length-settled, turn-fits, turn-room, turn-times, turn-slides}
+use Rattle.schedule.proofs.Accepted.{length-settled}
 use Rattle.schedule.proofs.Pass.{pass-starts}
+use Rattle.passing.specs.Inner.{Skipped}
 use Rattle.under_way.specs.Inner.{Passed}
-use Rattle.under_way.proofs.RunPass.{begins, waits, may-seat, passes}
+use Rattle.under_way.proofs.RunPass.{begins, skips, is-fetched, not-fetched, may-seat, passes, stops}
 use Rattle.under_way.proofs.seating.pass.Statement.{statement}
 use Rattle.under_way.proofs.seating.pass.Tie as tie
 
 abbrev Inv-loop : tie.InvT-loop
-Inv-loop body to limit seats₀ records w₀ k₀ seats w k =
+Inv-loop body to limit seats₀ records next₀ seats next =
     let trace = settle (flagOf to) (traceOf body) in
-    (k ≤ records) × (windowOf w ≡ windowBefore trace k) × Passed trace limit k seats
+    Skipped trace limit (next .k) next × Passed trace limit (next .k) seats
 
 abbrev μ-loop : tie.MeasureT-loop
-μ-loop body to limit seats₀ records w₀ k₀ seats w k = records - k
+μ-loop body to limit seats₀ records next₀ seats next = records - next .k
 
 count-requires : tie.Need-count-requires Inv-loop μ-loop
 count-requires c κs = few-records _ (c .before .pre .0)
@@ -31,97 +29,62 @@ count-requires c κs = few-records _ (c .before .pre .0)
 no-window-requires : tie.Need-no-window-requires Inv-loop μ-loop
 no-window-requires c κs = search needs
 
+skip-left-requires : tie.Need-skip-left-requires Inv-loop μ-loop
+skip-left-requires c κs = (c .before .before .before .pre .0, zero-le, pass-starts _ (c .no-window .ensures))
+
 loop-holds : tie.Need-loop-holds Inv-loop μ-loop
-loop-holds c = (omega arith, pass-starts _ (c .no-window .ensures), begins _ _ (c .before .before .before .pre .1))
+loop-holds c = skips _ _ (c .skip-left .ensures) (begins _ _ (c .before .before .before .before .pre .1))
 
 settled-at-requires : tie.Need-settled-at-requires Inv-loop μ-loop
 settled-at-requires c κs = search needs
 
-times-from-requires : tie.Need-times-from-requires Inv-loop μ-loop
-times-from-requires c κs =
-    let loop = c .before .before in
-    let known = loop .before .before .before in
-    let accepted = known .before .pre .0 in
-    let bytes : Bytes (known .before .args .body .now) = λ n. known .shared-slice-known .given n .fits in
-    let inside = subst (λ (n : ℕ). loop .loop .k < n) (loop .before .before .count .ensures) (c .before .loop-test .taken) in
-    turn-fits _ bytes accepted _ _ inside (loop .loop .inv .1) (c .settled-at .ensures)
-
-returns : tie.Need-returns Inv-loop μ-loop
-returns c =
-    let loop = c .before .before .before .before .before in
-    let known = loop .before .before .before in
-    let accepted = known .before .pre .0 in
-    let bytes : Bytes (known .before .args .body .now) = λ n. known .shared-slice-known .given n .fits in
-    let inside = subst (λ (n : ℕ). loop .loop .k < n) (loop .before .before .count .ensures) (c .before .before .before .before .loop-test .taken) in
-    let a = known .before .args in
-    let i = loop .loop .inv in
-    let this = c .before .before .before .settled-at .ensures in
-    let timed = turn-times _ bytes accepted _ _ inside (i .1) this (c .before .before .times-from .ensures) in
-    record {
-      passed = i .2;
-      finish = ap (λ (w : Theory.Window). w .finish) (i .1);
-      inside = omega (arith, length-settled (a .body .now) (flagOf (a .to)), loop .before .before .count .ensures, i .0);
-      waits = λ l. waits _ _ _ accepted inside this timed (c .if1 .taken);
-    }
-
 seat-requires : tie.Need-seat-requires Inv-loop μ-loop
 seat-requires c κs =
-    let loop = c .before .before .before .before .before .before in
-    let known = loop .before .before .before in
-    let accepted = known .before .pre .0 in
-    let bytes : Bytes (known .before .args .body .now) = λ n. known .shared-slice-known .given n .fits in
-    let inside = subst (λ (n : ℕ). loop .loop .k < n) (loop .before .before .count .ensures) (c .before .before .before .before .before .loop-test .taken) in
-    let i = loop .loop .inv in
-    let this = c .before .before .before .before .settled-at .ensures in
-    let timed = turn-times _ bytes accepted _ _ inside (i .1) this (c .before .before .before .times-from .ensures) in
-    may-seat _ _ _ accepted inside this timed (i .2) (c .before .if1 .left)
+    let loop = c .before .before .before .before .before in
+    let counted = loop .before .before .before in
+    let entry = counted .before .before in
+    let test = is-fetched (entry .args .body .now) (flagOf (entry .args .to)) (entry .args .limit) (loop .loop .next) (counted .count .ensures) (c .before .before .if1 .taken) in
+    may-seat _ _ (loop .loop .inv .0) (loop .loop .inv .1) (test .0)
+    (omega (arith, length-settled (entry .args .body .now) (flagOf (entry .args .to)), few-records _ (entry .pre .0), test .0)) (test .1)
 
-slide-requires : tie.Need-slide-requires Inv-loop μ-loop
-slide-requires c κs =
+add-skip-left : tie.Need-add-skip-left Inv-loop μ-loop
+add-skip-left c =
     let loop = c .before .before .before .before .before .before .before in
-    let known = loop .before .before .before in
-    let accepted = known .before .pre .0 in
-    let bytes : Bytes (known .before .args .body .now) = λ n. known .shared-slice-known .given n .fits in
-    let inside = subst (λ (n : ℕ). loop .loop .k < n) (loop .before .before .count .ensures) (c .before .before .before .before .before .before .loop-test .taken) in
-    turn-room _ bytes accepted _ _ inside (loop .loop .inv .1) (c .before .before .before .before .before .settled-at .ensures) (c .before .before .before .before .times-from .ensures)
+    let counted = loop .before .before .before in
+    let entry = counted .before .before in
+    let test = is-fetched (entry .args .body .now) (flagOf (entry .args .to)) (entry .args .limit) (loop .loop .next) (counted .count .ensures) (c .before .before .before .before .if1 .taken) in
+    omega (arith, length-settled (entry .args .body .now) (flagOf (entry .args .to)), few-records _ (entry .pre .0), test .0)
 
-add-k : tie.Need-add-k Inv-loop μ-loop
-add-k c =
-    let counted = c .before .before .before .before .before .before .before .before .before .before in
-    omega (arith, counted .count .ensures, few-records _ (counted .before .before .pre .0))
+skip-left-requires-2 : tie.Need-skip-left-requires-2 Inv-loop μ-loop
+skip-left-requires-2 c κs =
+    let loop = c .before .before .before .before .before .before .before in
+    let counted = loop .before .before .before in
+    let entry = counted .before .before in
+    let test = is-fetched (entry .args .body .now) (flagOf (entry .args .to)) (entry .args .limit) (loop .loop .next) (counted .count .ensures) (c .before .before .before .before .if1 .taken) in
+    (entry .pre .0, omega (arith, length-settled (entry .args .body .now) (flagOf (entry .args .to)), test .0), loop .loop .inv .0 .stays (test .0) .window)
 
 loop-less : tie.Need-loop-less Inv-loop μ-loop
-loop-less c = omega arith
+loop-less c =
+    let loop = c .before .before .before .before .before .before .before .before in
+    let counted = loop .before .before .before in
+    let a = counted .before .before .args in
+    let test = is-fetched (a .body .now) (flagOf (a .to)) (a .limit) (loop .loop .next) (counted .count .ensures) (c .before .before .before .before .before .if1 .taken) in
+    omega (arith, counted .count .ensures, length-settled (a .body .now) (flagOf (a .to)), test .0, c .skip-left2 .ensures .onward)
 
 loop-again : tie.Need-loop-again Inv-loop μ-loop
 loop-again c =
     let loop = c .before .before .before .before .before .before .before .before in
-    let known = loop .before .before .before in
-    let accepted = known .before .pre .0 in
-    let bytes : Bytes (known .before .args .body .now) = λ n. known .shared-slice-known .given n .fits in
-    let inside = subst (λ (n : ℕ). loop .loop .k < n) (loop .before .before .count .ensures) (c .before .before .before .before .before .before .before .loop-test .taken) in
-    let i = loop .loop .inv in
-    let this = c .before .before .before .before .before .before .settled-at .ensures in
-    let from = c .before .before .before .before .before .times-from .ensures in
-    let timed = turn-times _ bytes accepted _ _ inside (i .1) this from in (
-      omega arith,
-      turn-slides _ bytes accepted _ _ inside (i .1) this from (c .slide .ensures),
-      passes _ _ _ accepted inside this timed (i .2) (c .before .seat .ensures),
-    )
-
-returns-2 : tie.Need-returns-2 Inv-loop μ-loop
-returns-2 c =
-    let counted = c .before .before .before in
+    let counted = loop .before .before .before in
     let a = counted .before .before .args in
-    let long = length-settled (a .body .now) (flagOf (a .to)) in
-    let all = counted .count .ensures in
-    let i = c .before .loop .inv in
-    record {
-      passed = i .2;
-      finish = ap (λ (w : Theory.Window). w .finish) (i .1);
-      inside = omega (arith, long, all, i .0);
-      waits = λ l. absurd (omega (arith, long, all, c .loop-test .left, l));
-    }
+    let test = is-fetched (a .body .now) (flagOf (a .to)) (a .limit) (loop .loop .next) (counted .count .ensures) (c .before .before .before .before .before .if1 .taken) in
+    skips _ _ (c .skip-left2 .ensures)
+    (passes _ _ (loop .loop .inv .0) (loop .loop .inv .1) (test .0) (c .before .before .before .before .settled-at .ensures) (c .before .before .seat .ensures))
+
+returns : tie.Need-returns Inv-loop μ-loop
+returns c =
+    let loop = c .before .before .before in
+    let counted = loop .before .before .before in
+    stops _ _ (loop .loop .inv .0) (loop .loop .inv .1) (not-fetched _ _ _ (loop .loop .next) (counted .count .ensures) (c .if1 .left))
 
 pub pass-spec : {M : Type 1} → statement M
 pass-spec =
@@ -131,13 +94,12 @@ pass-spec =
     μ-loop
     count-requires
     no-window-requires
+    skip-left-requires
     loop-holds
     settled-at-requires
-    times-from-requires
-    returns
     seat-requires
-    slide-requires
-    add-k
+    add-skip-left
+    skip-left-requires-2
     loop-less
     loop-again
-    returns-2)
+    returns)
