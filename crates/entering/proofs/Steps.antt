@@ -24,16 +24,15 @@ module _ (f : Fields) where
 
   module _ (w : Window) where
     pub IF-step
-        : {free waited own r access : ℕ} {hit : Bool} →
-        free ≡ max 1 (w .ID) →
+        : {waited own r access : ℕ} {hit : Bool} →
         hit ≡ hits (i .fetch) →
         access ≡ max (w .«load_done») (w .«store_done») →
         waited ≡ cond hit 0 access →
-        own ≡ max free (w .«branch_done») →
+        own ≡ max (w .ID) (w .«branch_done») →
         r ≡ max own waited →
         r ≡ enterIF (windowOf w) i
     unfolding enterIF
-    IF-step {waited = waited} a b c d e g = g ∙ rw (e, a, sym (max-joins (max 1 (w .ID)) (w .«branch_done») waited), d, c, b)
+    IF-step {waited = waited} b c d e g = g ∙ rw (e, sym (max-joins (w .ID) (w .«branch_done») waited), d, c, b)
 
     pub ID-step : (from : ℕ) {count r : ℕ} → count ≡ entry i IF → r ≡ max (from + (count + 1)) (w .EX) → r ≡ enterID (windowOf w) i from
     unfolding enterID

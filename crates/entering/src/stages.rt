@@ -29,7 +29,8 @@ use record::Fields;
 // What a pass remembers of the instructions so far.
 #[repr(C)]
 pub struct Window {
-    // When the instruction directly before entered ID, EX, MEM and its last stage.
+    // When the instruction directly before entered ID, EX, MEM and its last stage; before the first, ID
+    // is 1, since IF is entered in cycle 1 at the earliest.
     pub ID: u32,
     pub EX: u32,
     pub MEM: u32,
@@ -50,9 +51,8 @@ pub struct Window {
 pub fn enter_if(w: Window, f: Fields) -> u32
     ensures { λ r. ⌜ r ≡ enterIF (windowOf w) (instructionOf f) ⌝ }
 {
-    let free = later(1, w.ID);
     let data = choose(fetch_hits(f), 0, later(w.load_done, w.store_done));
-    later(later(free, w.branch_done), data)
+    later(later(w.ID, w.branch_done), data)
 }
 
 pub fn enter_id(w: Window, f: Fields, from: u32) -> u32

@@ -9,7 +9,8 @@ use Rattle.machine.specs.Rules.{pre, IF, ID, EX, MEM, ST, WB, post, Plac
 
 -- Times are numbers of cycles from the start; 0 stands for none.
 pub record Window : Type 0 where
-  -- when the instruction directly before entered ID, EX, MEM and its last stage
+  -- when the instruction directly before entered ID, EX, MEM and its last stage; before the first, ID is 1, since IF is entered in cycle 1 at the
+  -- earliest
   pub ID : ℕ
   pub EX : ℕ
   pub MEM : ℕ
@@ -33,11 +34,11 @@ pub record Times : Type 0 where
   pub post : ℕ
 
 unfoldable pub noWindow : Window
-noWindow = record { ID = 0; EX = 0; MEM = 0; last = 0; branchDone = 0; loadDone = 0; storeDone = 0; loadTarget = 0; finish = 0 }
+noWindow = record { ID = 1; EX = 0; MEM = 0; last = 0; branchDone = 0; loadDone = 0; storeDone = 0; loadTarget = 0; finish = 0 }
 
 -- One function for each stage: the latest of the instruction's own arrival, the stage becoming free, and what it waits for.
 unfoldable pub enterIF : Window → Instruction → ℕ
-enterIF w i = max (max 1 (w .ID)) (max (w .branchDone) (cond (hits (i .fetch)) 0 (max (w .loadDone) (w .storeDone))))
+enterIF w i = max (w .ID) (max (w .branchDone) (cond (hits (i .fetch)) 0 (max (w .loadDone) (w .storeDone))))
 
 unfoldable pub enterID : Window → Instruction → ℕ → ℕ
 enterID w i atIF = max (atIF + entry i IF + 1) (w .EX)

@@ -1,7 +1,8 @@
 -- The window before an instruction holds what the closed form needs, so the times computed from it are the schedule's, and the last window holds
 -- the finishing time. The code of Finish and Run is proved against this.
-use Prim.Native.Nat.{ℕ, zero, suc}
+use Prim.Native.Nat.{ℕ, zero, suc, max}
 use mathlib.Core.Path.{_≡_, refl, sym, ap, _∙_}
+use native.Mathlib.Omega.{arith}
 use lib.ListN.{length}
 use Rattle.machine.specs.Instruction.{Instruction, Trace, instruction}
 use Rattle.machine.specs.Rules.{isStore, entry}
@@ -32,7 +33,7 @@ module _ (trace : Trace) where
   unfoldable pub seen : ℕ → Window
   seen k =
       record {
-        ID = previous b k 2;
+        ID = max 1 (previous b k 2);
         EX = previous b k 3;
         MEM = previous b k 4;
         last = previous b k 5;
@@ -71,9 +72,13 @@ module _ (trace : Trace) where
   unfolding timesFrom scheduledTimes
   times-seen k = rw (seen-IF k, seen-ID k, seen-EX k, seen-MEM k, seen-last k, seen-post k)
 
+  -- IF was entered before ID
+  not-first : (k : ℕ) → max 1 (enters b k 2) ≡ enters b k 2
+  not-first k = omega (arith, at-ID trace k)
+
   slide-seen : (k : ℕ) → slide (seen k) (instruction trace k) (scheduledTimes b k) ≡ seen (suc k)
   unfolding slide seen scheduledTimes previous branches loads stores lastDone targetBefore lastLeaves greatest done behaviour
-  slide-seen k = rw (at-post trace k)
+  slide-seen k = rw (not-first k, at-post trace k)
 
   pub window-seen : (k : ℕ) → windowBefore trace k ≡ seen k
   unfolding windowBefore noWindow seen previous branches loads stores lastDone targetBefore lastLeaves greatest

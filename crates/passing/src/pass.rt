@@ -17,7 +17,7 @@ use schedule::times_from;
 use settling::settled_at;
 
 // When an instruction enters each stage, and the window after it.
-pub struct Timed {
+struct Timed {
     pub times: Times,
     pub window: Window,
 }

@@ -37,7 +37,7 @@ pub fn no_window() -> Window
     ensures { λ r. ⌜ windowOf r ≡ noWindow ⌝ }
 {
     Window {
-        ID: 0,
+        ID: 1,
         EX: 0,
         MEM: 0,
         last: 0,
