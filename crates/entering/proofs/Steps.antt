@@ -24,15 +24,14 @@ module _ (f : Fields) where
 
   module _ (w : Window) where
     pub IF-step
-        : {waited own r access : ℕ} {hit : Bool} →
+        : {waited r access : ℕ} {hit : Bool} →
         hit ≡ hits (i .fetch) →
         access ≡ max (w .«load_done») (w .«store_done») →
         waited ≡ cond hit 0 access →
-        own ≡ max (w .ID) (w .«branch_done») →
-        r ≡ max own waited →
+        r ≡ max (w .«next_fetch») waited →
         r ≡ enterIF (windowOf w) i
     unfolding enterIF
-    IF-step {waited = waited} b c d e g = g ∙ rw (e, sym (max-joins (w .ID) (w .«branch_done») waited), d, c, b)
+    IF-step a b c d = d ∙ rw (c, b, a)
 
     pub ID-step : (from : ℕ) {count r : ℕ} → count ≡ entry i IF → r ≡ max (from + (count + 1)) (w .EX) → r ≡ enterID (windowOf w) i from
     unfolding enterID

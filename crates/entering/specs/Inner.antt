@@ -5,13 +5,12 @@ use Rattle.entering.specs.declared.stages.Window.{Window}
 abbrev pub windowOf : Window → Theory.Window
 windowOf w =
     record {
-      ID = w .ID;
+      nextFetch = w .«next_fetch»;
       EX = w .EX;
       MEM = w .MEM;
       last = w .last;
-      branchDone = w .«branch_done»;
+      post = w .post;
       loadDone = w .«load_done»;
       storeDone = w .«store_done»;
       loadTarget = w .«load_target»;
-      finish = w .finish;
     }

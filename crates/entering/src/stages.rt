@@ -29,20 +29,19 @@ use record::Fields;
 // What a pass remembers of the instructions so far.
 #[repr(C)]
 pub struct Window {
-    // When the instruction directly before entered ID, EX, MEM and its last stage; before the first, ID
-    // is 1, since IF is entered in cycle 1 at the earliest.
-    pub ID: u32,
+    // When IF can be entered next: when the instruction directly before entered ID, or, where that holds
+    // fetches back, one cycle after it stood with count 0 in EX; before the first, 1.
+    pub next_fetch: u32,
+    // When the instruction directly before entered EX, MEM, its last stage and post.
     pub EX: u32,
     pub MEM: u32,
     pub last: u32,
-    // One cycle after the last branch, load and store stood with count 0 in EX, MEM and ST.
-    pub branch_done: u32,
+    pub post: u32,
+    // One cycle after the last load and store stood with count 0 in MEM and ST.
     pub load_done: u32,
     pub store_done: u32,
     // The target of a load directly before.
     pub load_target: u32,
-    // When all so far have left.
-    pub finish: u32,
 }
 
 // One function for each stage: the latest of the instruction's own arrival, the stage becoming
@@ -52,7 +51,7 @@ pub fn enter_if(w: Window, f: Fields) -> u32
     ensures { λ r. ⌜ r ≡ enterIF (windowOf w) (instructionOf f) ⌝ }
 {
     let data = choose(fetch_hits(f), 0, later(w.load_done, w.store_done));
-    later(later(w.ID, w.branch_done), data)
+    later(w.next_fetch, data)
 }
 
 pub fn enter_id(w: Window, f: Fields, from: u32) -> u32

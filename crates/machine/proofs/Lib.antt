@@ -34,6 +34,7 @@ pub mod Window
 pub mod Dominance
 pub mod FetchTime
 pub mod StageTimes
+pub mod LastLeaves
 pub mod WindowTimes
 pub mod WindowBounds
 pub mod WindowPlaces

@@ -20,7 +20,7 @@ reads-zero : (i : Instruction) → reads i 0 ≡ false
 unfolding reads _and_
 reads-zero i = refl
 
-no-count-in-WB : (i : Instruction) → isStore (i .kind) ≡ false → countAt i 5 ≡ 0
+pub no-count-in-WB : (i : Instruction) → isStore (i .kind) ≡ false → countAt i 5 ≡ 0
 no-count-in-WB i e = last-count i (isStore (i .kind)) ∙ rw e
 
 module _ (trace : Trace) where

@@ -1,6 +1,6 @@
 -- The window: what one pass over a trace has to remember of the instructions so far, and the times of the next instruction from it. Finish and Run
--- are coded this way. A window of constant size suffices because the instruction directly before, and the last branch, load and store, dominate all
--- older ones.
+-- are coded this way. A window of constant size suffices because the instruction directly before, and the last load and store, dominate all older
+-- ones.
 use Prim.Native.Nat.{ℕ, zero, suc, _+_, _-_, max}
 use mathlib.Core.Bool.{cond}
 use lib.Dec.{ltb}
@@ -9,20 +9,19 @@ use Rattle.machine.specs.Rules.{pre, IF, ID, EX, MEM, ST, WB, post, Plac
 
 -- Times are numbers of cycles from the start; 0 stands for none.
 pub record Window : Type 0 where
-  -- when the instruction directly before entered ID, EX, MEM and its last stage; before the first, ID is 1, since IF is entered in cycle 1 at the
-  -- earliest
-  pub ID : ℕ
+  -- when IF can be entered next: when the instruction directly before entered ID, or, where that holds fetches back, one cycle after it stood with
+  -- count 0 in EX; before the first, 1
+  pub nextFetch : ℕ
+  -- when the instruction directly before entered EX, MEM, its last stage and post
   pub EX : ℕ
   pub MEM : ℕ
   pub last : ℕ
-  -- one cycle after the last branch, load and store stood with count 0 in EX, MEM and ST
-  pub branchDone : ℕ
+  pub post : ℕ
+  -- one cycle after the last load and store stood with count 0 in MEM and ST
   pub loadDone : ℕ
   pub storeDone : ℕ
   -- the target of a load directly before
   pub loadTarget : ℕ
-  -- when all so far have left
-  pub finish : ℕ
 
 -- when an instruction enters each stage, `last` being ST or WB
 pub record Times : Type 0 where
@@ -34,11 +33,11 @@ pub record Times : Type 0 where
   pub post : ℕ
 
 unfoldable pub noWindow : Window
-noWindow = record { ID = 1; EX = 0; MEM = 0; last = 0; branchDone = 0; loadDone = 0; storeDone = 0; loadTarget = 0; finish = 0 }
+noWindow = record { nextFetch = 1; EX = 0; MEM = 0; last = 0; post = 0; loadDone = 0; storeDone = 0; loadTarget = 0 }
 
 -- One function for each stage: the latest of the instruction's own arrival, the stage becoming free, and what it waits for.
 unfoldable pub enterIF : Window → Instruction → ℕ
-enterIF w i = max (w .ID) (max (w .branchDone) (cond (hits (i .fetch)) 0 (max (w .loadDone) (w .storeDone))))
+enterIF w i = max (w .nextFetch) (cond (hits (i .fetch)) 0 (max (w .loadDone) (w .storeDone)))
 
 unfoldable pub enterID : Window → Instruction → ℕ → ℕ
 enterID w i atIF = max (atIF + entry i IF + 1) (w .EX)
@@ -72,16 +71,19 @@ timesFrom w i =
 unfoldable pub slide : Window → Instruction → Times → Window
 slide w i e =
     record {
-      ID = e .ID;
+      nextFetch = cond (holdsFetches (i .kind)) (e .EX + entry i EX + 1) (e .ID);
       EX = e .EX;
       MEM = e .MEM;
       last = e .last;
-      branchDone = cond (holdsFetches (i .kind)) (e .EX + entry i EX + 1) (w .branchDone);
+      post = e .post;
       loadDone = cond (isLoad (i .kind)) (e .MEM + entry i MEM + 1) (w .loadDone);
       storeDone = cond (isStore (i .kind)) (e .post) (w .storeDone);
       loadTarget = cond (isLoad (i .kind)) (i .target) 0;
-      finish = max (w .finish) (e .post);
     }
+
+-- when all so far have left: the last of them leaves last, or the last store
+unfoldable pub allLeftBy : Window → ℕ
+allLeftBy w = max (w .storeDone) (w .post)
 
 -- the window before instruction k of a trace, and that instruction's times
 unfoldable pub windowBefore : Trace → ℕ → Window

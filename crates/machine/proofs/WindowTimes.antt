@@ -1,20 +1,22 @@
 -- The window before an instruction holds what the closed form needs, so the times computed from it are the schedule's, and the last window holds
 -- the finishing time. The code of Finish and Run is proved against this.
-use Prim.Native.Nat.{ℕ, zero, suc, max}
+use Prim.Native.Nat.{ℕ, zero, suc, _+_, max}
+use mathlib.Core.Bool.{cond}
 use mathlib.Core.Path.{_≡_, refl, sym, ap, _∙_}
 use native.Mathlib.Omega.{arith}
 use lib.ListN.{length}
 use Rattle.machine.specs.Instruction.{Instruction, Trace, instruction}
-use Rattle.machine.specs.Rules.{isStore, entry}
+use Rattle.machine.specs.Rules.{EX, isStore, holdsFetches, entry}
 use Rattle.machine.specs.Time.{finish}
-use Rattle.machine.proofs.Numbers.{greatest}
+use Rattle.machine.proofs.Connectives.{Value, passed, failed, value}
 use Rattle.machine.proofs.Schedule.{Behaviour, enters, done}
 use Rattle.machine.proofs.Derivation.{countAt, last-count, behaviour}
 use Rattle.machine.proofs.Finish.{lastLeaves, finish-is}
 use Rattle.machine.proofs.Dominance.{previous, lastDone}
 use Rattle.machine.proofs.FetchTime.{branches, loads, stores, at-IF}
+use Rattle.machine.proofs.LastLeaves.{last-leaves}
 use Rattle.machine.proofs.StageTimes.{targetBefore, at-ID, at-EX, at-MEM, at-last, at-post}
-use Rattle.machine.proofs.Window.{Window, Times, noWindow, enterIF, enterID, enterEX, enterMEM, enterLast, lastCount, enterPost, timesFrom, slide, windowBefore, timesAt}
+use Rattle.machine.proofs.Window.{Window, Times, noWindow, enterIF, enterID, enterEX, enterMEM, enterLast, lastCount, enterPost, timesFrom, slide, windowBefore, timesAt, allLeftBy}
 
 -- the schedule's times of an instruction
 unfoldable pub scheduledTimes : Behaviour → ℕ → Times
@@ -33,20 +35,19 @@ module _ (trace : Trace) where
   unfoldable pub seen : ℕ → Window
   seen k =
       record {
-        ID = max 1 (previous b k 2);
+        nextFetch = max (max 1 (previous b k 2)) (branches trace k);
         EX = previous b k 3;
         MEM = previous b k 4;
         last = previous b k 5;
-        branchDone = branches trace k;
+        post = previous b k 6;
         loadDone = loads trace k;
         storeDone = stores trace k;
         loadTarget = targetBefore trace k;
-        finish = lastLeaves b k;
       }
 
   seen-IF : (k : ℕ) → enterIF (seen k) (instruction trace k) ≡ enters b k 1
   unfolding enterIF seen
-  seen-IF k = sym (at-IF trace k)
+  seen-IF k = omega (arith, at-IF trace k)
 
   seen-ID : (k : ℕ) → enterID (seen k) (instruction trace k) (enters b k 1) ≡ enters b k 2
   unfolding enterID seen
@@ -72,16 +73,21 @@ module _ (trace : Trace) where
   unfolding timesFrom scheduledTimes
   times-seen k = rw (seen-IF k, seen-ID k, seen-EX k, seen-MEM k, seen-last k, seen-post k)
 
-  -- IF was entered before ID
-  not-first : (k : ℕ) → max 1 (enters b k 2) ≡ enters b k 2
-  not-first k = omega (arith, at-ID trace k)
+  -- the instruction directly before was fetched after all branches before it, so that of the branches it alone can hold the next fetch back
+  next-fetch : (k : ℕ) → cond (holdsFetches (instruction trace k .kind)) (enters b k 3 + entry (instruction trace k) EX + 1) (enters b k 2) ≡ max (max 1 (enters b k 2)) (branches trace (suc k))
+  unfolding branches lastDone behaviour done
+  next-fetch k = by (value (holdsFetches (instruction trace k .kind)))
+    where
+      by : Value (holdsFetches (instruction trace k .kind)) → cond (holdsFetches (instruction trace k .kind)) (enters b k 3 + entry (instruction trace k) EX + 1) (enters b k 2) ≡ max (max 1 (enters b k 2)) (branches trace (suc k))
+      by (passed e) = rw e (omega (arith, at-EX trace k))
+      by (failed e) = rw e (omega (arith, at-IF trace k, at-ID trace k))
 
   slide-seen : (k : ℕ) → slide (seen k) (instruction trace k) (scheduledTimes b k) ≡ seen (suc k)
-  unfolding slide seen scheduledTimes previous branches loads stores lastDone targetBefore lastLeaves greatest done behaviour
-  slide-seen k = rw (not-first k, at-post trace k)
+  unfolding slide seen scheduledTimes previous branches loads stores lastDone targetBefore done behaviour
+  slide-seen k = rw (next-fetch k, at-post trace k)
 
   pub window-seen : (k : ℕ) → windowBefore trace k ≡ seen k
-  unfolding windowBefore noWindow seen previous branches loads stores lastDone targetBefore lastLeaves greatest
+  unfolding windowBefore noWindow seen previous branches loads stores lastDone targetBefore
   window-seen zero = refl
   window-seen (suc k) = rw (window-seen k, times-seen k) (slide-seen k)
 
@@ -100,9 +106,9 @@ module _ (trace : Trace) where
   window-times k = rw (window-seen k) (times-seen k)
 
   -- the window holds the time by which all so far have left, so the last window holds the finishing time
-  pub window-leaves : (k : ℕ) → windowBefore trace k .finish ≡ lastLeaves b k
-  unfolding seen
-  window-leaves k = ap (λ (w : Window). w .finish) (window-seen k)
+  pub window-leaves : (k : ℕ) → allLeftBy (windowBefore trace k) ≡ lastLeaves b k
+  unfolding allLeftBy seen
+  window-leaves k = ap allLeftBy (window-seen k) ∙ last-leaves trace k
 
-  pub window-finish : windowBefore trace (length trace) .finish ≡ finish trace
+  pub window-finish : allLeftBy (windowBefore trace (length trace)) ≡ finish trace
   window-finish = window-leaves (length trace) ∙ sym (finish-is trace)

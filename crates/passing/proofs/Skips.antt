@@ -7,7 +7,7 @@ use Rattle.machine.specs.Instruction.{Trace}
 use Rattle.machine.specs.Time.{bound, maxTime, finish}
 use Rattle.machine.proofs.Bounds.{bound-take}
 use Rattle.machine.proofs.Numbers.{Tri, less, equal, more, tri}
-use Rattle.machine.proofs.Window.{Times, windowBefore, timesAt}
+use Rattle.machine.proofs.Window.{Times, windowBefore, timesAt, allLeftBy}
 use Rattle.machine.proofs.WindowBounds.{times-fit}
 use Rattle.entering.specs.Inner.{windowOf}
 use Rattle.entering.specs.declared.stages.Window as Code
@@ -64,7 +64,7 @@ module _ (trace : Trace) (limit from : ℕ) where
         }
 
 -- all have left by a limit that no time exceeds
-pub skips-all : (trace : Trace) (limit from : ℕ) {r : Reached} → bound trace ≤ maxTime → maxTime ≤ limit → Skipped trace limit from r → r .window .finish ≡ finish trace
+pub skips-all : (trace : Trace) (limit from : ℕ) {r : Reached} → bound trace ≤ maxTime → maxTime ≤ limit → Skipped trace limit from r → allLeftBy (windowOf (r .window)) ≡ finish trace
 skips-all trace limit from {r} small never s = pass-ends trace (r .k) (s .ends (all (tri (r .k) (length trace)))) (all (tri (r .k) (length trace)))
   where
     all : Tri (r .k) (length trace) → r .k ≡ length trace

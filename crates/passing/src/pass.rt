@@ -11,6 +11,7 @@ ghost use Rattle.passing.specs.Inner.{Skipped};
 use entering::Window;
 use record::count;
 use schedule::Times;
+use schedule::all_left_by;
 use schedule::no_window;
 use schedule::slide;
 use schedule::times_from;
@@ -88,5 +89,5 @@ pub fn finish_settled(body: &[u8], to: u32) -> u32
     ensures { λ r. ⌜ r ≡ finish (settle (flagOf to) (traceOf (now (body .entry)))) ⌝ }
 {
     let end = skip_left(body, to, NEVER, 0, no_window());
-    end.window.finish
+    all_left_by(end.window)
 }

@@ -1,5 +1,5 @@
 -- What the calls of `slide` and of `times_from` give together: one congruence for each, over plain variables.
-use Prim.Native.Nat.{ℕ, _+_, max}
+use Prim.Native.Nat.{ℕ, _+_}
 use mathlib.Core.Bool.{Bool, cond}
 use mathlib.Core.Path.{_≡_}
 use Rattle.machine.specs.Rules.{MEM, isLoad, isStore, holdsFetches, entry}
@@ -14,34 +14,32 @@ use Rattle.schedule.specs.declared.sliding.Times.{Times}
 
 -- the window slides
 pub slid
-    : (f : Fields) (w : Window) (e : Times) {branchDone loadDone storeDone loadTarget finish count : ℕ} {load branch store : Bool} →
+    : (f : Fields) (w : Window) (e : Times) {nextFetch loadDone storeDone loadTarget count : ℕ} {load branch store : Bool} →
     load ≡ isLoad (instructionOf f .kind) →
     branch ≡ holdsFetches (instructionOf f .kind) →
-    branchDone ≡ cond branch (e .EX + (f .execution + 1)) (w .«branch_done») →
+    nextFetch ≡ cond branch (e .EX + (f .execution + 1)) (e .ID) →
     count ≡ entry (instructionOf f) MEM →
     loadDone ≡ cond load (e .MEM + (count + 1)) (w .«load_done») →
     store ≡ isStore (instructionOf f .kind) →
     storeDone ≡ cond store (e .post) (w .«store_done») →
     loadTarget ≡ cond load (f .target) 0 →
-    finish ≡ max (w .finish) (e .post) →
     _≡_
     {A = Theory.Window}
     (record {
-      ID = e .ID;
+      nextFetch = nextFetch;
       EX = e .EX;
       MEM = e .MEM;
       last = e .last;
-      branchDone = branchDone;
+      post = e .post;
       loadDone = loadDone;
       storeDone = storeDone;
       loadTarget = loadTarget;
-      finish = finish;
     })
     (Theory.slide (windowOf w) (instructionOf f) (timesOf e))
 unfolding Theory.slide entry instructionOf
-slid f w e load branch branchDone count loadDone store storeDone loadTarget finish =
+slid f w e load branch nextFetch count loadDone store storeDone loadTarget =
     rw
-    (branchDone, loadDone, storeDone, loadTarget, finish, count, sum-joins (e .EX) (f .execution) 1, sum-joins (e .MEM) (entry (instructionOf f) MEM) 1, load, branch, store)
+    (nextFetch, loadDone, storeDone, loadTarget, count, sum-joins (e .EX) (f .execution) 1, sum-joins (e .MEM) (entry (instructionOf f) MEM) 1, load, branch, store)
 
 -- times with six equal fields are equal
 pub six-times

@@ -8,7 +8,7 @@ use lib.ListN.{length, take}
 use Rattle.machine.specs.Instruction.{Instruction, Trace, instruction}
 use Rattle.machine.specs.Time.{bound, maxTime, finish}
 use Rattle.machine.proofs.Bounds.{bound-take}
-use Rattle.machine.proofs.Window.{Window, Times, noWindow, timesFrom, slide, windowBefore, timesAt}
+use Rattle.machine.proofs.Window.{Window, Times, noWindow, timesFrom, slide, windowBefore, timesAt, allLeftBy}
 use Rattle.machine.proofs.WindowBounds.{TimesWithin, times-fit}
 use Rattle.machine.proofs.WindowTimes.{window-starts, window-slides, window-finish}
 use Rattle.schedule.specs.Inner.{Room}
@@ -21,8 +21,8 @@ module _ (trace : Trace) where
   pub pass-starts : {w : Window} → w ≡ noWindow → w ≡ windowBefore trace 0
   pass-starts e = e ∙ sym (window-starts trace)
 
-  pub pass-ends : {w : Window} (k : ℕ) → w ≡ windowBefore trace k → k ≡ length trace → w .finish ≡ finish trace
-  pass-ends k e end = ap (λ (w : Window). w .finish) (e ∙ ap (windowBefore trace) end) ∙ window-finish trace
+  pub pass-ends : {w : Window} (k : ℕ) → w ≡ windowBefore trace k → k ≡ length trace → allLeftBy w ≡ finish trace
+  pass-ends k e end = ap allLeftBy (e ∙ ap (windowBefore trace) end) ∙ window-finish trace
 
   module _ (small : bound trace ≤ maxTime) (k : ℕ) (inside : k < length trace) {w : Window} {i : Instruction} (at : w ≡ windowBefore trace k) (this : i ≡ instruction trace k) where
     times-are : timesFrom w i ≡ timesAt trace k

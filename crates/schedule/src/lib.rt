@@ -4,6 +4,7 @@
 pub mod sliding;
 
 pub use sliding::Times;
+pub use sliding::all_left_by;
 pub use sliding::no_window;
 pub use sliding::slide;
 pub use sliding::times_from;

@@ -1,6 +1,6 @@
 // All the times of an instruction, and the window after it.
 ghost use mathlib.Core.Path.{_≡_};
-ghost use Rattle.machine.proofs.Window.{noWindow, timesFrom, slide};
+ghost use Rattle.machine.proofs.Window.{noWindow, timesFrom, slide, allLeftBy};
 ghost use Rattle.machine.proofs.WindowBounds.{TimesWithin};
 ghost use Rattle.record.specs.Rules.{instructionOf};
 ghost use Rattle.decode.specs.Inner.{AccessLawful};
@@ -37,15 +37,14 @@ pub fn no_window() -> Window
     ensures { λ r. ⌜ windowOf r ≡ noWindow ⌝ }
 {
     Window {
-        ID: 1,
+        next_fetch: 1,
         EX: 0,
         MEM: 0,
         last: 0,
-        branch_done: 0,
+        post: 0,
         load_done: 0,
         store_done: 0,
         load_target: 0,
-        finish: 0,
     }
 }
 
@@ -76,14 +75,20 @@ pub fn slide(w: Window, f: Fields, e: Times) -> Window
 {
     let load = is_load(f);
     Window {
-        ID: e.ID,
+        next_fetch: choose(holds_fetches(f), e.EX + (f.execution + 1), e.ID),
         EX: e.EX,
         MEM: e.MEM,
         last: e.last,
-        branch_done: choose(holds_fetches(f), e.EX + (f.execution + 1), w.branch_done),
+        post: e.post,
         load_done: choose(load, e.MEM + (count_in_mem(f) + 1), w.load_done),
         store_done: choose(is_store(f), e.post, w.store_done),
         load_target: choose(load, f.target, 0),
-        finish: later(w.finish, e.post),
     }
+}
+
+// When all so far have left: the last of them leaves last, or the last store.
+pub fn all_left_by(w: Window) -> u32
+    ensures { λ r. ⌜ r ≡ allLeftBy (windowOf w) ⌝ }
+{
+    later(w.store_done, w.post)
 }

@@ -12,12 +12,13 @@ use lib.ListN.{length, replicate}
 use Rattle.machine.specs.Instruction.{Flag, Instruction, Trace, instruction}
 use Rattle.machine.specs.Rules.{Place, pre, after}
 use Rattle.machine.specs.Time.{settle}
-use Rattle.machine.proofs.Window.{Window, Times, slide, windowBefore, timesFrom, enterID, enterEX, enterMEM, enterLast, enterPost, timesAt, placeAt}
+use Rattle.machine.proofs.Window.{Times, slide, windowBefore, timesFrom, enterID, enterEX, enterMEM, enterLast, enterPost, timesAt, placeAt, allLeftBy}
 use Rattle.machine.proofs.WindowPlaces.{window-place}
 use Rattle.machine.proofs.WindowTimes.{window-slides}
 use Rattle.record.specs.Body.{records, traceOf}
 use Rattle.record.proofs.Accepted.{and-true}
 use Rattle.places.specs.Inner.{numbered}
+use Rattle.entering.specs.Inner.{windowOf}
 use Rattle.schedule.specs.Inner.{timesOf}
 use Rattle.schedule.proofs.Accepted.{length-settled}
 use Rattle.schedule.proofs.Pass.{pass-ends}
@@ -39,10 +40,10 @@ module _ (body : List ℕ) (to : Flag) (limit : ℕ) (r : Reached) {n : ℕ} (co
   not-fetched e l =
       leb-false _ _ (subst (λ (b : Bool). (b && leb (r .times .IF) limit) ≡ false) (lt-ltb (r .k) n (omega (arith, counted, length-settled body to))) e)
 
--- an instruction has left by the finish of the window after it
-left-by-finish : (trace : Trace) (k : ℕ) → timesAt trace k .post ≤ windowBefore trace (k + 1) .finish
-unfolding slide
-left-by-finish trace k = rw (add-one k, window-slides trace k) (omega arith)
+-- an instruction has left when all so far have
+left-by-all : (trace : Trace) (k : ℕ) → timesAt trace k .post ≤ allLeftBy (windowBefore trace (k + 1))
+unfolding slide allLeftBy
+left-by-all trace k = rw (add-one k, window-slides trace k) (omega arith)
 
 pub begins : (trace : Trace) (limit : ℕ) {seats : List ℕ} → seats ≡ replicate 13 0 → Passed trace limit 0 seats
 unfolding stateSeated slotSeated
@@ -95,8 +96,8 @@ module _ (trace : Trace) (limit : ℕ) where
         ap (λ (p : Place). p .stage) (window-place trace limit (r .k) l)
         ∙ rw (lt-ltb limit (timesAt trace (r .k) .IF) (subst (λ (e : Times). limit < e .IF) (s .stays l .times) unfetched))
 
-    later : r .k < length trace → limit < r .window .finish
-    later l = omega (arith, s .stays l .late, ap (λ (w : Window). w .finish) (s .stays l .window), left-by-finish trace (r .k))
+    later : r .k < length trace → limit < allLeftBy (windowOf (r .window))
+    later l = omega (arith, s .stays l .late, ap allLeftBy (s .stays l .window), left-by-all trace (r .k))
 
     module _ {seats : List ℕ} (here : Passed trace limit (r .k) seats) where
       -- the instruction that is reached is fetched by the limit, and is seated
@@ -117,11 +118,15 @@ module _ (trace : Trace) (limit : ℕ) where
       passes inside this grown = grows (r .k) inside here (rw (← this, ← s .stays inside .times) grown)
 
       -- it is not, or there is none, and the pass stops
-      pub stops : (r .k < length trace → limit < r .times .IF) → Stopped trace limit (record { count = r .k; finish = r .window .finish }) seats
-      stops unfetched =
+      pub stops
+          : {finish : ℕ} →
+          (r .k < length trace → limit < r .times .IF) →
+          finish ≡ allLeftBy (windowOf (r .window)) →
+          Stopped trace limit (record { count = r .k; finish = finish }) seats
+      stops unfetched e =
           record {
             passed = here;
             inside = s .inside;
-            all = λ end. pass-ends trace (r .k) (s .ends end) end;
-            waits = λ l. (waits l (unfetched l), later l);
+            all = λ end. e ∙ pass-ends trace (r .k) (s .ends end) end;
+            waits = λ l. (waits l (unfetched l), subst (λ (n : ℕ). limit < n) (sym e) (later l));
           }

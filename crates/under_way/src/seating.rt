@@ -9,6 +9,7 @@ ghost use Rattle.record.specs.Body.{traceOf, bodyRefusal};
 ghost use Rattle.under_way.specs.Inner.{Stopped};
 use passing::skip_left;
 use record::count;
+use schedule::all_left_by;
 use schedule::no_window;
 use seats::SEATS;
 use seats::seat;
@@ -36,6 +37,6 @@ pub fn pass(body: &[u8], to: u32, limit: u32, seats: &mut [u32; SEATS]) -> Fetch
     }
     Fetched {
         count: next.k,
-        finish: next.window.finish,
+        finish: all_left_by(next.window),
     }
 }

@@ -16,11 +16,8 @@ choose-requires c κs = search needs
 later-requires-2 : tie.Need-later-requires-2
 later-requires-2 c κs = search needs
 
-later-requires-3 : tie.Need-later-requires-3
-later-requires-3 c κs = search needs
-
 returns : tie.Need-returns
-returns c = IF-step _ _ (c .before .before .before .before .fetch-hits .ensures) (c .before .before .before .later .ensures) (c .before .before .choose .ensures) (c .before .later2 .ensures) (c .later3 .ensures)
+returns c = IF-step _ (c .before .before .before .before .args .w) (c .before .before .before .fetch-hits .ensures) (c .before .before .later .ensures) (c .before .choose .ensures) (c .later2 .ensures)
 
 pub enter-if-spec : {M : Type 1} → statement M
 enter-if-spec =
@@ -30,5 +27,4 @@ enter-if-spec =
     later-requires
     choose-requires
     later-requires-2
-    later-requires-3
     returns)

@@ -1,5 +1,6 @@
 -- `finish_settled` meets its contract: by a limit that no time exceeds all have left.
 use Prim.Native.Nat.{zero-le}
+use mathlib.Core.Path.{_∙_}
 use native.Mathlib.Omega.{arith}
 use borrow.Author.Needs.{needs}
 use Rattle.machine.specs.Time.{maxTime}
@@ -15,10 +16,15 @@ no-window-requires c κs = search needs
 skip-left-requires : tie.Need-skip-left-requires
 skip-left-requires c κs = (c .before .before .pre, zero-le, pass-starts _ (c .no-window .ensures))
 
+all-left-by-requires : tie.Need-all-left-by-requires
+all-left-by-requires c κs = search needs
+
 returns : tie.Need-returns
 returns c =
-    let known = c .before .before in
-    skips-all _ _ _ (settled-small _ (λ n. known .shared-slice-known .given n .fits) (known .before .pre) _) (omega arith) (c .skip-left .ensures)
+    let reached = c .before in
+    let known = reached .before .before in
+    c .all-left-by .ensures
+    ∙ skips-all _ _ _ (settled-small _ (λ n. known .shared-slice-known .given n .fits) (known .before .pre) _) (omega arith) (reached .skip-left .ensures)
 
 pub finish-settled-spec : {M : Type 1} → statement M
-finish-settled-spec = tie.close (tie.spec no-window-requires skip-left-requires returns)
+finish-settled-spec = tie.close (tie.spec no-window-requires skip-left-requires all-left-by-requires returns)

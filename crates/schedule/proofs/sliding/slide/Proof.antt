@@ -45,11 +45,8 @@ choose-requires-3 c κs = search needs
 choose-requires-4 : tie.Need-choose-requires-4
 choose-requires-4 c κs = search needs
 
-later-requires : tie.Need-later-requires
-later-requires c κs = search needs
-
 returns : tie.Need-returns
-returns c = slid _ _ _ (c .before .before .before .before .before .before .before .before .before .before .before .is-load .ensures) (c .before .before .before .before .before .before .before .before .before .before .holds-fetches .ensures) (c .before .before .before .before .before .before .before .choose .ensures) (c .before .before .before .before .before .before .count-in-mem .ensures) (c .before .before .before .before .choose2 .ensures) (c .before .before .before .is-store .ensures) (c .before .before .choose3 .ensures) (c .before .choose4 .ensures) (c .later .ensures)
+returns c = slid _ _ _ (c .before .before .before .before .before .before .before .before .before .before .is-load .ensures) (c .before .before .before .before .before .before .before .before .before .holds-fetches .ensures) (c .before .before .before .before .before .before .choose .ensures) (c .before .before .before .before .before .count-in-mem .ensures) (c .before .before .before .choose2 .ensures) (c .before .before .is-store .ensures) (c .before .choose3 .ensures) (c .choose4 .ensures)
 
 pub slide-spec : {M : Type 1} → statement M
 slide-spec =
@@ -67,5 +64,4 @@ slide-spec =
     is-store-requires
     choose-requires-3
     choose-requires-4
-    later-requires
     returns)

@@ -80,11 +80,15 @@ loop-again c =
     skips _ _ (c .skip-left2 .ensures)
     (passes _ _ (loop .loop .inv .0) (loop .loop .inv .1) (test .0) (c .before .before .before .before .settled-at .ensures) (c .before .before .seat .ensures))
 
+all-left-by-requires : tie.Need-all-left-by-requires Inv-loop μ-loop
+all-left-by-requires c κs = search needs
+
 returns : tie.Need-returns Inv-loop μ-loop
 returns c =
-    let loop = c .before .before .before in
+    let test = c .before in
+    let loop = test .before .before .before in
     let counted = loop .before .before .before in
-    stops _ _ (loop .loop .inv .0) (loop .loop .inv .1) (not-fetched _ _ _ (loop .loop .next) (counted .count .ensures) (c .if1 .left))
+    stops _ _ (loop .loop .inv .0) (loop .loop .inv .1) (not-fetched _ _ _ (loop .loop .next) (counted .count .ensures) (test .if1 .left)) (c .all-left-by .ensures)
 
 pub pass-spec : {M : Type 1} → statement M
 pass-spec =
@@ -102,4 +106,5 @@ pass-spec =
     skip-left-requires-2
     loop-less
     loop-again
+    all-left-by-requires
     returns)
