@@ -1,7 +1,7 @@
 -- For each function that computes with the window, what its calls give together: one congruence for each, over plain variables.
 use Prim.Native.Nat.{ℕ, _+_, max}
 use mathlib.Core.Bool.{Bool, cond}
-use mathlib.Core.Path.{_≡_, _∙_, sym}
+use mathlib.Core.Path.{_≡_, _∙_}
 use native.Mathlib.Omega.{arith}
 use Rattle.machine.specs.Instruction.{Instruction}
 use Rattle.machine.specs.Rules.{IF, EX, MEM, isStore, hits, entry, reads, missesData}
@@ -38,14 +38,13 @@ module _ (f : Fields) where
     ID-step from a b = b ∙ rw (a, sum-joins from (entry i IF) 1)
 
     pub EX-step
-        : (from : ℕ) {held load r : ℕ} {needed : Bool} →
+        : (from : ℕ) {free r : ℕ} {needed : Bool} →
         needed ≡ reads i (w .«load_target») →
-        load ≡ cond needed (w .«load_done») 0 →
-        held ≡ max (w .MEM) load →
-        r ≡ max (from + 1) held →
+        free ≡ cond needed (w .last) (w .MEM) →
+        r ≡ max (from + 1) free →
         r ≡ enterEX (windowOf w) i from
     unfolding enterEX
-    EX-step from {load = load} a b c d = d ∙ rw (c, max-joins (from + 1) (w .MEM) load, b, a)
+    EX-step from a b c = c ∙ rw (b, a)
 
     pub MEM-step
         : (from : ℕ) {held store r : ℕ} {missed : Bool} →

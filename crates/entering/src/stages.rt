@@ -61,12 +61,13 @@ pub fn enter_id(w: Window, f: Fields, from: u32) -> u32
     later(from + (count_in_if(f) + 1), w.EX)
 }
 
+// A load directly before is done in MEM when it enters WB.
 pub fn enter_ex(w: Window, f: Fields, from: u32) -> u32
     requires { ⌜ from + 1 < 2 ^ 32 ⌝ }
     ensures { λ r. ⌜ r ≡ enterEX (windowOf w) (instructionOf f) from ⌝ }
 {
-    let load = choose(reads(f, w.load_target), w.load_done, 0);
-    later(from + 1, later(w.MEM, load))
+    let free = choose(reads(f, w.load_target), w.last, w.MEM);
+    later(from + 1, free)
 }
 
 // An access that misses is a load's or a store's, by the record rules.

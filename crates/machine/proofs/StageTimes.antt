@@ -1,7 +1,7 @@
 -- When an instruction enters the stages after IF: of the older ones, the closed form needs only the one directly before (and its target, if it is a
 -- load) and the last store.
 use Prim.Native.Nat.{ℕ, zero, suc, _+_, _≤_, _<_, max}
-use mathlib.Core.Bool.{true, false, cond}
+use mathlib.Core.Bool.{Bool, true, false, cond, false≢true}
 use mathlib.Core.Path.{_≡_, refl, sym, subst, _∙_}
 use native.Mathlib.Nat.{le-antisymm, max-le}
 use native.Mathlib.Omega.{arith}
@@ -9,8 +9,9 @@ use Rattle.machine.specs.Test.{_and_}
 use Rattle.machine.specs.Instruction.{Instruction, Trace, instruction}
 use Rattle.machine.specs.Rules.{IF, EX, MEM, isLoad, isStore, entry, reads, missesData}
 use Rattle.machine.proofs.Numbers.{Last, below, at, last}
-use Rattle.machine.proofs.Connectives.{Value, passed, failed, value, and-l, and-r, and-both}
+use Rattle.machine.proofs.Connectives.{Value, passed, failed, value, clash, and-l, and-r, and-both}
 use Rattle.machine.proofs.Schedule.{Behaviour, shares, Together, early, late, together, shares-last, enters, done, own, share, wait, least}
+use Rattle.machine.proofs.Doing.{Does, holding, loading, storing, nothing, does}
 use Rattle.machine.proofs.Hazards.{load-goal, store-goal, waitsFor}
 use Rattle.machine.proofs.Derivation.{waits, waits-for, waits-within, countAt, last-count, behaviour}
 use Rattle.machine.proofs.Dominance.{previous, le-previous, previous-le, share-early, lastDone, last-done-le}
@@ -22,6 +23,12 @@ reads-zero i = refl
 
 pub no-count-in-WB : (i : Instruction) → isStore (i .kind) ≡ false → countAt i 5 ≡ 0
 no-count-in-WB i e = last-count i (isStore (i .kind)) ∙ rw e
+
+load-no-store : {h l s : Bool} → Does h l s → l ≡ true → s ≡ false
+load-no-store holding e = absurd (false≢true e)
+load-no-store loading e = refl
+load-no-store storing e = absurd (false≢true e)
+load-no-store nothing e = absurd (false≢true e)
 
 module _ (trace : Trace) where
   abbrev b : Behaviour
@@ -76,11 +83,11 @@ module _ (trace : Trace) where
       pick (passed e) (failed f) = rw e (rw f (omega arith))
       pick (failed e) r = rw e (rw (reads-zero (instruction trace (suc k))) (omega arith))
 
-  pub at-EX : (k : ℕ) →
+  after-load : (k : ℕ) →
       enters b k 3
       ≡ max (max (enters b k 2 + 1) (previous b k 4)) (cond (reads (instruction trace k) (targetBefore k)) (loads trace k) 0)
   unfolding behaviour waitsFor done entry
-  at-EX k =
+  after-load k =
       le-antisymm
       (least b k 2 _
       (omega arith)
@@ -176,3 +183,50 @@ module _ (trace : Trace) where
       (last-free k)
       (λ j l. let p = done-pre b j in omega arith))
       (max-le (own b k 4) (store-free k (value (isStore (instruction trace k .kind)))))
+
+  -- a load is done in MEM when it enters WB, so that who waits in ID for the one directly before goes by its last stage
+  pub load-enters-WB : (k : ℕ) → isLoad (instruction trace k .kind) ≡ true → enters b k 5 ≡ done b k 4
+  unfolding behaviour done
+  load-enters-WB k e =
+      let free : enters b k 5 ≡ max (enters b k 4 + entry (instruction trace k) MEM + 1) 0 =
+      subst (λ (t : Bool). enters b k 5 ≡ max (enters b k 4 + entry (instruction trace k) MEM + 1) (cond t (stores trace k) 0)) (load-no-store (does (instruction trace k .kind)) e) (at-last k) in
+      omega arith
+
+  load-before : (k : ℕ) → reads (instruction trace k) (targetBefore k) ≡ true → loads trace k ≡ previous b k 5
+  unfolding targetBefore loads lastDone previous
+  load-before zero e = clash e (reads-zero (instruction trace 0))
+  load-before (suc k) e = pick (value (isLoad (instruction trace k .kind)))
+    where
+      pick : Value (isLoad (instruction trace k .kind)) →
+          cond (isLoad (instruction trace k .kind)) (done b k 4) (lastDone b (λ j. isLoad (instruction trace j .kind)) 4 k) ≡ enters b k 5
+      pick (passed l) = rw l (sym (load-enters-WB k l))
+      pick (failed l) =
+          clash
+          (subst (λ (t : Bool). reads (instruction trace (suc k)) (cond t (instruction trace k .target) 0) ≡ true) l e)
+          (reads-zero (instruction trace (suc k)))
+
+  MEM-first : (k : ℕ) → previous b k 4 ≤ previous b k 5
+  unfolding previous done
+  MEM-first zero = omega arith
+  MEM-first (suc k) = omega (arith, own b k 4)
+
+  pub at-EX : (k : ℕ) →
+      enters b k 3 ≡ max (enters b k 2 + 1) (cond (reads (instruction trace k) (targetBefore k)) (previous b k 5) (previous b k 4))
+  at-EX k = pick (value (reads (instruction trace k) (targetBefore k)))
+    where
+      pick : Value (reads (instruction trace k) (targetBefore k)) →
+          enters b k 3 ≡ max (enters b k 2 + 1) (cond (reads (instruction trace k) (targetBefore k)) (previous b k 5) (previous b k 4))
+      pick (passed e) =
+          rw e
+          (omega (
+            arith,
+            load-before k e,
+            MEM-first k,
+            subst (λ (t : Bool). enters b k 3 ≡ max (max (enters b k 2 + 1) (previous b k 4)) (cond t (loads trace k) 0)) e (after-load k),
+          ))
+      pick (failed e) =
+          rw e
+          (omega (
+            arith,
+            subst (λ (t : Bool). enters b k 3 ≡ max (max (enters b k 2 + 1) (previous b k 4)) (cond t (loads trace k) 0)) e (after-load k),
+          ))

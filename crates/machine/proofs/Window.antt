@@ -42,8 +42,9 @@ enterIF w i = max (w .nextFetch) (cond (hits (i .fetch)) 0 (max (w .loadDone) (w
 unfoldable pub enterID : Window → Instruction → ℕ → ℕ
 enterID w i atIF = max (atIF + entry i IF + 1) (w .EX)
 
+-- a load directly before is done in MEM when it enters WB
 unfoldable pub enterEX : Window → Instruction → ℕ → ℕ
-enterEX w i atID = max (max (atID + 1) (w .MEM)) (cond (reads i (w .loadTarget)) (w .loadDone) 0)
+enterEX w i atID = max (atID + 1) (cond (reads i (w .loadTarget)) (w .last) (w .MEM))
 
 unfoldable pub enterMEM : Window → Instruction → ℕ → ℕ
 enterMEM w i atEX = max (max (atEX + entry i EX + 1) (w .last)) (cond (missesData i) (w .storeDone) 0)
@@ -76,7 +77,7 @@ slide w i e =
       MEM = e .MEM;
       last = e .last;
       post = e .post;
-      loadDone = cond (isLoad (i .kind)) (e .MEM + entry i MEM + 1) (w .loadDone);
+      loadDone = cond (isLoad (i .kind)) (e .last) (w .loadDone);
       storeDone = cond (isStore (i .kind)) (e .post) (w .storeDone);
       loadTarget = cond (isLoad (i .kind)) (i .target) 0;
     }

@@ -6,7 +6,7 @@ use mathlib.Core.Path.{_≡_, refl, sym, ap, _∙_}
 use native.Mathlib.Omega.{arith}
 use lib.ListN.{length}
 use Rattle.machine.specs.Instruction.{Instruction, Trace, instruction}
-use Rattle.machine.specs.Rules.{EX, isStore, holdsFetches, entry}
+use Rattle.machine.specs.Rules.{EX, isLoad, isStore, holdsFetches, entry}
 use Rattle.machine.specs.Time.{finish}
 use Rattle.machine.proofs.Connectives.{Value, passed, failed, value}
 use Rattle.machine.proofs.Schedule.{Behaviour, enters, done}
@@ -15,7 +15,7 @@ use Rattle.machine.proofs.Finish.{lastLeaves, finish-is}
 use Rattle.machine.proofs.Dominance.{previous, lastDone}
 use Rattle.machine.proofs.FetchTime.{branches, loads, stores, at-IF}
 use Rattle.machine.proofs.LastLeaves.{last-leaves}
-use Rattle.machine.proofs.StageTimes.{targetBefore, at-ID, at-EX, at-MEM, at-last, at-post}
+use Rattle.machine.proofs.StageTimes.{targetBefore, at-ID, at-EX, at-MEM, at-last, at-post, load-enters-WB}
 use Rattle.machine.proofs.Window.{Window, Times, noWindow, enterIF, enterID, enterEX, enterMEM, enterLast, lastCount, enterPost, timesFrom, slide, windowBefore, timesAt, allLeftBy}
 
 -- the schedule's times of an instruction
@@ -82,9 +82,18 @@ module _ (trace : Trace) where
       by (passed e) = rw e (omega (arith, at-EX trace k))
       by (failed e) = rw e (omega (arith, at-IF trace k, at-ID trace k))
 
+  last-load : (k : ℕ) → cond (isLoad (instruction trace k .kind)) (enters b k 5) (loads trace k) ≡ loads trace (suc k)
+  unfolding loads lastDone
+  last-load k = by (value (isLoad (instruction trace k .kind)))
+    where
+      by : Value (isLoad (instruction trace k .kind)) →
+          cond (isLoad (instruction trace k .kind)) (enters b k 5) (loads trace k) ≡ cond (isLoad (instruction trace k .kind)) (done b k 4) (loads trace k)
+      by (passed e) = rw e (load-enters-WB trace k e)
+      by (failed e) = rw e
+
   slide-seen : (k : ℕ) → slide (seen k) (instruction trace k) (scheduledTimes b k) ≡ seen (suc k)
   unfolding slide seen scheduledTimes previous branches loads stores lastDone targetBefore done behaviour
-  slide-seen k = rw (next-fetch k, at-post trace k)
+  slide-seen k = rw (next-fetch k, last-load k, at-post trace k)
 
   pub window-seen : (k : ℕ) → windowBefore trace k ≡ seen k
   unfolding windowBefore noWindow seen previous branches loads stores lastDone targetBefore

@@ -1,8 +1,8 @@
 -- What a pass has skipped, one instruction after the other.
 use Prim.Native.Nat.{ℕ, suc, _+_, _≤_, _<_}
-use mathlib.Core.Path.{_≡_, sym, ap, subst, _∙_}
+use mathlib.Core.Path.{_≡_, sym, subst}
 use native.Mathlib.Omega.{arith}
-use lib.ListN.{length, take}
+use lib.ListN.{length}
 use Rattle.machine.specs.Instruction.{Trace}
 use Rattle.machine.specs.Time.{bound, maxTime, finish}
 use Rattle.machine.proofs.Bounds.{bound-take}

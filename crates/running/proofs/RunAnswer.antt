@@ -10,7 +10,7 @@ use lib.ListN.{length}
 use Rattle.machine.specs.Instruction.{Flag, Trace}
 use Rattle.machine.specs.Rules.{after, allLeft}
 use Rattle.machine.specs.Time.{finish, settle}
-use Rattle.machine.specs.State.{start, stateOf}
+use Rattle.machine.specs.State.{start}
 use Rattle.machine.specs.declared.State.{State}
 use Rattle.machine.proofs.Numbers.{Tri, less, equal, more, tri}
 use Rattle.machine.proofs.Finish.{all-left-is}

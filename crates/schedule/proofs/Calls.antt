@@ -2,7 +2,7 @@
 use Prim.Native.Nat.{ℕ, _+_}
 use mathlib.Core.Bool.{Bool, cond}
 use mathlib.Core.Path.{_≡_}
-use Rattle.machine.specs.Rules.{MEM, isLoad, isStore, holdsFetches, entry}
+use Rattle.machine.specs.Rules.{isLoad, isStore, holdsFetches, entry}
 use Rattle.machine.proofs.Window as Theory
 use Rattle.record.specs.declared.layout.Fields.{Fields}
 use Rattle.record.specs.Rules.{instructionOf}
@@ -14,12 +14,11 @@ use Rattle.schedule.specs.declared.sliding.Times.{Times}
 
 -- the window slides
 pub slid
-    : (f : Fields) (w : Window) (e : Times) {nextFetch loadDone storeDone loadTarget count : ℕ} {load branch store : Bool} →
+    : (f : Fields) (w : Window) (e : Times) {nextFetch loadDone storeDone loadTarget : ℕ} {load branch store : Bool} →
     load ≡ isLoad (instructionOf f .kind) →
     branch ≡ holdsFetches (instructionOf f .kind) →
     nextFetch ≡ cond branch (e .EX + (f .execution + 1)) (e .ID) →
-    count ≡ entry (instructionOf f) MEM →
-    loadDone ≡ cond load (e .MEM + (count + 1)) (w .«load_done») →
+    loadDone ≡ cond load (e .last) (w .«load_done») →
     store ≡ isStore (instructionOf f .kind) →
     storeDone ≡ cond store (e .post) (w .«store_done») →
     loadTarget ≡ cond load (f .target) 0 →
@@ -37,9 +36,9 @@ pub slid
     })
     (Theory.slide (windowOf w) (instructionOf f) (timesOf e))
 unfolding Theory.slide entry instructionOf
-slid f w e load branch nextFetch count loadDone store storeDone loadTarget =
+slid f w e load branch nextFetch loadDone store storeDone loadTarget =
     rw
-    (nextFetch, loadDone, storeDone, loadTarget, count, sum-joins (e .EX) (f .execution) 1, sum-joins (e .MEM) (entry (instructionOf f) MEM) 1, load, branch, store)
+    (nextFetch, loadDone, storeDone, loadTarget, sum-joins (e .EX) (f .execution) 1, load, branch, store)
 
 -- times with six equal fields are equal
 pub six-times

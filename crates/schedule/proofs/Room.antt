@@ -61,4 +61,4 @@ module _ (w : Window) (i : Instruction) where
 
     -- and so the window may slide past it
     pub room : {times : Times} → times ≡ e → Room i times
-    room p = record { EX = room-in-EX (ap (λ (t : Times). t .EX) p); MEM = room-in-MEM (ap (λ (t : Times). t .MEM) p) }
+    room p = room-in-EX (ap (λ (t : Times). t .EX) p)

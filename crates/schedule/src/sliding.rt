@@ -8,7 +8,6 @@ ghost use Rattle.entering.specs.Inner.{windowOf};
 ghost use Rattle.machine.specs.Time.{maxTime};
 ghost use Rattle.schedule.specs.Inner.{timesOf, Room};
 use decode::choose;
-use decode::count_in_mem;
 use decode::holds_fetches;
 use decode::is_load;
 use decode::is_store;
@@ -80,7 +79,7 @@ pub fn slide(w: Window, f: Fields, e: Times) -> Window
         MEM: e.MEM,
         last: e.last,
         post: e.post,
-        load_done: choose(load, e.MEM + (count_in_mem(f) + 1), w.load_done),
+        load_done: choose(load, e.last, w.load_done),
         store_done: choose(is_store(f), e.post, w.store_done),
         load_target: choose(load, f.target, 0),
     }

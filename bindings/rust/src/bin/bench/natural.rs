@@ -140,8 +140,8 @@ fn times(w: &Window, i: &Instruction) -> [u32; 6] {
     let memory = if i.fetch == 0 { 0 } else { w.load_done.max(w.store_done) };
     let at_if = w.next_fetch.max(memory);
     let at_id = (at_if + i.in_if() + 1).max(w.ex);
-    let load = if i.reads(w.load_target) { w.load_done } else { 0 };
-    let at_ex = (at_id + 1).max(w.mem).max(load);
+    let free = if i.reads(w.load_target) { w.last } else { w.mem };
+    let at_ex = (at_id + 1).max(free);
     let store = if i.access == 1 { w.store_done } else { 0 };
     let at_mem = (at_ex + i.execution + 1).max(w.last).max(store);
     let busy = if i.kind == STORE { w.store_done } else { 0 };
@@ -155,7 +155,7 @@ fn slide(w: &mut Window, i: &Instruction, e: &[u32; 6]) {
     match i.kind {
         BRANCH => w.next_fetch = e[2] + i.execution + 1,
         LOAD => {
-            w.load_done = e[3] + i.in_mem() + 1;
+            w.load_done = e[4];
             w.load_target = i.target;
         }
         STORE => w.store_done = e[5],

@@ -16,13 +16,12 @@ add-later c = search needs
 later-requires : tie.Need-later-requires
 later-requires c κs = search needs
 
-later-requires-2 : tie.Need-later-requires-2
-later-requires-2 c κs = search needs
-
 returns : tie.Need-returns
-returns c = EX-step _ _ _ (c .before .before .before .reads .ensures) (c .before .before .choose .ensures) (c .before .later .ensures) (c .later2 .ensures)
+returns c =
+    let a = c .before .before .before .args in
+    EX-step _ (a .w) (a .from) (c .before .before .reads .ensures) (c .before .choose .ensures) (c .later .ensures)
 
 pub enter-ex-spec : {M : Type 1} → statement M
 enter-ex-spec =
     tie.close
-    (tie.spec reads-requires choose-requires add-later later-requires later-requires-2 returns)
+    (tie.spec reads-requires choose-requires add-later later-requires returns)

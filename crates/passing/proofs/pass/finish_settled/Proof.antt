@@ -3,7 +3,6 @@ use Prim.Native.Nat.{zero-le}
 use mathlib.Core.Path.{_∙_}
 use native.Mathlib.Omega.{arith}
 use borrow.Author.Needs.{needs}
-use Rattle.machine.specs.Time.{maxTime}
 use Rattle.schedule.proofs.Accepted.{settled-small}
 use Rattle.schedule.proofs.Pass.{pass-starts}
 use Rattle.passing.proofs.Skips.{skips-all}

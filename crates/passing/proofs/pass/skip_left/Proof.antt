@@ -1,11 +1,11 @@
 -- `skip_left` meets its contract: at the loop's head the window is the one before record k, and all from `from` on have left.
 use Prim.Native.Nat.{ℕ, _-_, _<_, _≤_}
-use mathlib.Core.Path.{_≡_, sym, ap, subst, _∙_}
+use mathlib.Core.Path.{_≡_, sym, subst}
 use native.Mathlib.Omega.{arith}
 use borrow.Author.Needs.{needs}
 use lib.ListN.{length}
 use Rattle.machine.specs.Time.{settle}
-use Rattle.machine.proofs.Window.{windowBefore, timesAt}
+use Rattle.machine.proofs.Window.{windowBefore}
 use Rattle.record.specs.Rules.{flagOf}
 use Rattle.record.specs.Body.{traceOf}
 use Rattle.record.proofs.Accepted.{few-records}

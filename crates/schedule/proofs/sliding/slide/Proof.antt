@@ -24,15 +24,6 @@ add-choose-2 c = omega arith
 choose-requires : tie.Need-choose-requires
 choose-requires c κs = search needs
 
-count-in-mem-requires : tie.Need-count-in-mem-requires
-count-in-mem-requires c κs = search needs
-
-add-choose-3 : tie.Need-add-choose-3
-add-choose-3 c = search needs
-
-add-choose-4 : tie.Need-add-choose-4
-add-choose-4 c = search needs
-
 choose-requires-2 : tie.Need-choose-requires-2
 choose-requires-2 c κs = search needs
 
@@ -46,7 +37,15 @@ choose-requires-4 : tie.Need-choose-requires-4
 choose-requires-4 c κs = search needs
 
 returns : tie.Need-returns
-returns c = slid _ _ _ (c .before .before .before .before .before .before .before .before .before .before .is-load .ensures) (c .before .before .before .before .before .before .before .before .before .holds-fetches .ensures) (c .before .before .before .before .before .before .choose .ensures) (c .before .before .before .before .before .count-in-mem .ensures) (c .before .before .before .choose2 .ensures) (c .before .before .is-store .ensures) (c .before .choose3 .ensures) (c .choose4 .ensures)
+returns c =
+    slid _ _ _
+    (c .before .before .before .before .before .before .before .before .is-load .ensures)
+    (c .before .before .before .before .before .before .before .holds-fetches .ensures)
+    (c .before .before .before .before .choose .ensures)
+    (c .before .before .before .choose2 .ensures)
+    (c .before .before .is-store .ensures)
+    (c .before .choose3 .ensures)
+    (c .choose4 .ensures)
 
 pub slide-spec : {M : Type 1} → statement M
 slide-spec =
@@ -57,9 +56,6 @@ slide-spec =
     add-choose
     add-choose-2
     choose-requires
-    count-in-mem-requires
-    add-choose-3
-    add-choose-4
     choose-requires-2
     is-store-requires
     choose-requires-3

@@ -1,6 +1,5 @@
 -- `pass` meets its contract. The loop's invariant: the pass has come to an instruction that has not left by the limit, or to the end.
-use Prim.Native.Nat.{ℕ, _-_, _<_, _≤_, zero-le}
-use mathlib.Core.Path.{_≡_, sym, ap, subst, _∙_}
+use Prim.Native.Nat.{_-_, zero-le}
 use native.Mathlib.Omega.{arith}
 use borrow.Author.Needs.{needs}
 use Rattle.machine.specs.Time.{settle}
