@@ -115,33 +115,24 @@ fn settled_check(body: &[u8]) -> u32 {
 
 #[derive(Clone, Copy, Default)]
 struct Window {
-    next_fetch: u32,
+    id: u32,
     ex: u32,
     mem: u32,
     last: u32,
-    post: u32,
+    branch_done: u32,
     load_done: u32,
     store_done: u32,
     load_target: u8,
-}
-
-impl Window {
-    fn start() -> Window {
-        Window { next_fetch: 1, ..Window::default() }
-    }
-
-    fn all_left_by(&self) -> u32 {
-        self.store_done.max(self.post)
-    }
+    finish: u32,
 }
 
 /// When the instruction enters IF, ID, EX, MEM, its last stage and post.
 fn times(w: &Window, i: &Instruction) -> [u32; 6] {
     let memory = if i.fetch == 0 { 0 } else { w.load_done.max(w.store_done) };
-    let at_if = w.next_fetch.max(memory);
+    let at_if = w.id.max(1).max(w.branch_done).max(memory);
     let at_id = (at_if + i.in_if() + 1).max(w.ex);
-    let free = if i.reads(w.load_target) { w.last } else { w.mem };
-    let at_ex = (at_id + 1).max(free);
+    let load = if i.reads(w.load_target) { w.load_done } else { 0 };
+    let at_ex = (at_id + 1).max(w.mem).max(load);
     let store = if i.access == 1 { w.store_done } else { 0 };
     let at_mem = (at_ex + i.execution + 1).max(w.last).max(store);
     let busy = if i.kind == STORE { w.store_done } else { 0 };
@@ -150,27 +141,28 @@ fn times(w: &Window, i: &Instruction) -> [u32; 6] {
 }
 
 fn slide(w: &mut Window, i: &Instruction, e: &[u32; 6]) {
-    [w.next_fetch, w.ex, w.mem, w.last, w.post] = [e[1], e[2], e[3], e[4], e[5]];
+    [w.id, w.ex, w.mem, w.last] = [e[1], e[2], e[3], e[4]];
     w.load_target = 0;
     match i.kind {
-        BRANCH => w.next_fetch = e[2] + i.execution + 1,
+        BRANCH => w.branch_done = e[2] + i.execution + 1,
         LOAD => {
-            w.load_done = e[4];
+            w.load_done = e[3] + i.in_mem() + 1;
             w.load_target = i.target;
         }
         STORE => w.store_done = e[5],
         _ => {}
     }
+    w.finish = w.finish.max(e[5]);
 }
 
 fn pass(body: &[u8], to: u8) -> u32 {
-    let mut w = Window::start();
+    let mut w = Window::default();
     for b in body.chunks_exact(10) {
         let i = read(b).settled(to);
         let e = times(&w, &i);
         slide(&mut w, &i, &e);
     }
-    w.all_left_by()
+    w.finish
 }
 
 pub fn finish(body: &[u8]) -> Result<u32, u32> {
@@ -196,7 +188,7 @@ pub fn run(body: &[u8], limit: u32) -> Result<(State, u32, bool), u32> {
         0 => {}
         n => return Err(n),
     }
-    let mut w = Window::start();
+    let mut w = Window::default();
     let mut s = State::start();
     for (k, b) in body.chunks_exact(10).enumerate() {
         let i = read(b);
@@ -223,8 +215,7 @@ pub fn run(body: &[u8], limit: u32) -> Result<(State, u32, bool), u32> {
             hold(&mut s.WB, k, 0);
         }
     }
-    let finish = w.all_left_by();
-    Ok((s, limit.min(finish), finish <= limit))
+    Ok((s, limit.min(w.finish), w.finish <= limit))
 }
 
 fn at(body: &[u8], k: u32) -> Instruction {
