@@ -237,22 +237,39 @@ function build(text,   bar, edits, n, i, all) {
 }
 
 # The pieces laid out in the program's memory, the input from 0 on and what stands beside it from 65,600 on: only what is
-# not there already.
-BEGIN { beside_at = 65600; input_text = "none yet" }
+# not there already. A line has two bytes as one number, the low one first; where it ends in one, the byte behind it is
+# written again as it is.
+BEGIN {
+    beside_at = 65600
+    input_text = "none yet"
+    for (i = 0; i < 256; i++) value[byte(i)] = i
+}
+function print_pairs(at, size, hex,   i, text) {
+    for (i = 1; i < length(hex); i += 4) text = text " " value[substr(hex, i, 2)] + 256 * value[substr(hex, i + 2, 2)]
+    print "p", at, at + size text
+}
 function flush(buffer) {
-    if (pending != "") print "p", buffer + pending_at, 1, pending
+    if (length(pending) % 4) pending = pending substr(laid[buffer] "00", 2 * pending_at + length(pending) + 1, 2)
+    if (pending != "") print_pairs(buffer + pending_at, bytes_in(pending), pending)
     pending = ""
 }
-function lay(buffer,   i, from, all, old) {
+function even(unit) { return bytes_in(unit) % 2 ? unit unit : unit }
+# Bytes that wait for those behind them.
+function wait(buffer, at, hex) {
+    if (hex == "") return
+    if (pending_at + bytes_in(pending) != at) flush(buffer)
+    if (pending == "") pending_at = at
+    pending = pending hex
+}
+function lay(buffer,   i, from, all, whole) {
     from = 0
     pending = ""
     for (i = 1; i <= pieces; i++) {
         all = repeat(units[i], times[i])
-        old = substr(laid[buffer], 2 * from + 1, length(all))
-        if (all != old) {
-            if (times[i] > 1) { flush(buffer); print "p", buffer + from, times[i], units[i] }
-            else if (pending != "" && pending_at + bytes_in(pending) == from) pending = pending all
-            else { flush(buffer); pending_at = from; pending = all }
+        if (all != substr(laid[buffer], 2 * from + 1, length(all))) {
+            whole = times[i] > 1 ? bytes_in(all) - bytes_in(all) % 2 : 0
+            if (whole) { flush(buffer); print_pairs(buffer + from, whole, even(units[i])) }
+            wait(buffer, from + whole, substr(all, 2 * whole + 1))
             laid[buffer] = substr(laid[buffer], 1, 2 * from) all substr(laid[buffer], 2 * from + length(all) + 1)
         }
         from += bytes_in(all)
@@ -269,32 +286,30 @@ function input(text) {
     return input_length
 }
 
-# States: the fetched count, and index and count of each slot, which is empty where the dash is.
+# States: the fetched count, and for each slot whether it is filled, its index and its count. As a word it is `index:count`,
+# behind a dash where it is not filled, or the dash alone.
 function read_slot(name, text,   parts) {
-    dash[name] = text ~ /^-/ ? "-" : ""
+    filled[name] = text !~ /^-/
     sub(/^-/, "", text)
     split(text ":", parts, ":")
     slot_index[name] = parts[1] + 0
     slot_count[name] = parts[2] + 0
 }
-function state_text(   i, name, text) {
+function slot_numbers(name) { return " " filled[name] " " slot_index[name] " " slot_count[name] }
+function state_numbers(   i, text) {
     text = fetched
-    for (i = 1; i <= 6; i++) {
-        name = slots[i]
-        text = text " " dash[name]
-        if (dash[name] == "" || slot_index[name] || slot_count[name]) text = text slot_index[name] ":" slot_count[name]
-    }
+    for (i = 1; i <= 6; i++) text = text slot_numbers(slots[i])
     return text
 }
 # The orderly state of a set of slots: IF to MEM hold the last fetched, WB the one before these, ST instruction 0;
 # counts are those on entry.
-function read_base(n, filled,   i, name, below, next_one) {
+function read_base(n, chosen,   i, name, below, next_one) {
     fetched = below = n
     for (i = 1; i <= 6; i++) {
         name = slots[i]
         read_slot(name, "-")
         next_one = name == "ST" ? 1 : below
-        if (!has(filled, name) || next_one == 0) continue
+        if (!has(chosen, name) || next_one == 0) continue
         read_slot(name, next_one - 1 ":" on_entry[name, next_one - 1] + 0)
         if (name != "ST") below = next_one - 1
     }
@@ -325,7 +340,7 @@ function read_state(words, n,   i) {
         fetched = words[2]
         for (i = 1; i <= 6; i++) read_slot(slots[i], words[i + 2])
     }
-    return state_text()
+    return state_numbers()
 }
 
 # Write: the counts, N*C for N of C, and the room, +N or -N for that much more or less than the file has. Beside the input
@@ -343,7 +358,7 @@ function write_case(words, n, body, refusal,   i, t, parts, said, file, room) {
     else pieces = file = 0
     piece("a5", room + 4 - file)
     lay(beside_at)
-    return room + 4 " " room " " t said " = " refusal " " file
+    return room + 4 " " room " " t said " =" three(refusal " " file, 2)
 }
 # The pieces of the file: its table, then those of the input.
 function written(t,   i, table, offset) {
@@ -380,26 +395,62 @@ function one_case(head, rest,   words, n, i, call, body, answer, beside) {
     if (words[1] == "write") answer = write_case(words, n, body, answer)
     else if (words[1] == "alike") answer = alike_case(beside, answer)
     else answer = answered(words, n, answer)
-    print call, body, answer
+    print_case(call " " body " " answer)
     cases++
 }
 function alike_case(beside, answer,   body) {
     body = build(beside)
     lay(beside_at)
-    return body " = " answer (answer ~ / / ? "" : " 0")
+    return body " =" three(answer, 2)
+}
+# An answer of so many numbers, or of the refusal alone. Zeros follow: the program reads three.
+function three(answer, told,   words, n) {
+    n = split(answer, words, " ")
+    if (n != told && n != 1) fail("expected a refusal or " told " numbers")
+    for (; n < 3; n++) answer = answer " 0"
+    return answer
 }
 # The arguments and the answer. Of a refusal its number is told: zeros, the given or the starting state follow.
 function answered(words, n, answer,   argument) {
-    argument = n > 1 ? words[2] " = " : "= "
+    argument = n > 1 ? words[2] " =" : "="
     if (words[1] == "step") {
         argument = read_state(words, n)
-        return argument " = " answer (answer ~ / / || answer == 0 ? "" : " " argument)
+        return argument " =" (answer ~ / / ? after_step(answer) : answer == 0 ? answer : answer " 0 0 " argument)
     }
-    if (words[1] == "open") return argument answer (answer == 0 ? " " starts[words[2]] " " ends[words[2]] : " 0 0")
-    if (words[1] == "view" && answer ~ /^[0-9]+ [0-9]+$/) return argument answer " 0 0 0 0 0 0 0 0 0"
-    if (answer ~ / / || words[1] == "check") return argument answer
-    if (words[1] == "run") return argument answer " 0 0 0 - - - - - -"
-    return argument answer (words[1] == "times" ? " 0 0" : " 0")
+    if (words[1] == "run") return argument (answer ~ / / ? with_slots(answer) : answer repeat(" 0", 21))
+    if (words[1] == "view") return argument answer (answer ~ /^[0-9]+ [0-9]+$/ ? repeat(" 0", 9) : "")
+    if (words[1] == "open") return words[2] " " opened(words[2], answer)
+    if (words[1] == "margin") return argument three(with_sign(answer), 3)
+    if (words[1] == "check" && answer !~ / /) fail("expected two refusals")
+    return argument three(answer, words[1] == "times" ? 3 : 2)
+}
+# The slots of an answer as numbers.
+function with_slots(answer,   words, n, i, text) {
+    n = split(answer, words, " ")
+    text = words[1]
+    for (i = 2; i <= n; i++) {
+        if (words[i] ~ /[-:]/) read_slot("told", words[i])
+        text = text (words[i] ~ /[-:]/ ? slot_numbers("told") : " " words[i])
+    }
+    return text
+}
+# A state has the place that it has after a run: two zeros stand for the cycles and for whether all have left.
+function after_step(answer) { sub(/ /, " 0 0 ", answer); return with_slots(answer) }
+# A margin is how far it is above 0, and how far below.
+function with_sign(answer) {
+    if (!sub(/ -/, " 0 ", answer) && answer ~ / /) answer = answer " 0"
+    return answer
+}
+# What declines the file, since it is "accepted when nothing but 9 can decline it"; then the refusal, and where the part
+# starts and ends.
+function opened(trace, answer) {
+    return (answer == 9 ? 0 : answer) " =" answer " " (answer == 0 ? starts[trace] " " ends[trace] : "0 0")
+}
+# A case has nothing but numbers of 32 bits behind its word; an `=` stands before the first of the answer.
+function print_case(text,   words, n, i) {
+    n = split(text, words, / =?/)
+    for (i = 2; i <= n; i++) if (words[i] !~ /^[0-9]+$/ || words[i] + 0 > 4294967295) fail("no number of 32 bits: " words[i])
+    print text
 }
 
 {

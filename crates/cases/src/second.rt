@@ -1,142 +1,121 @@
 // The second model's answer to a case. It has no View and no Step: of these it judges the body.
-use crate::expect::answer;
-use crate::expect::expect;
-use crate::expect::expect_slot;
-use crate::expect::expect_three;
-use crate::expect::says_margin;
-use crate::expect::says_two;
-use crate::read::argument;
-use crate::read::first;
-use crate::read::narrow;
-use crate::writing;
+use crate::writing::writes;
+use case_text::first;
+use case_text::narrow;
+use case_text::says;
+use case_text::says_margin;
+use case_text::says_state;
 use machine::Slot;
-use std::num::wrapping_add_u32;
+use machine::State;
+use std::num::wrapping_add_usize;
 
-fn open(s: &[u8], at: usize, file: &[u8]) -> bool {
-    let found = model::open(file, argument(s, at));
-    let start = narrow(found.start as u64);
-    let end = wrapping_add_u32(start, narrow(found.length as u64));
-    expect_three(s, found.refusal, start, end) == s.len()
+fn open(s: &[u8], trace: u32, file: &[u8]) -> bool {
+    let found = model::open(file, trace);
+    let end = wrapping_add_usize(found.start, found.length);
+    says(s, found.refusal, narrow(found.start), narrow(end))
 }
 
-fn check_body(s: &[u8], body: &[u8]) -> bool {
-    says_two(s, model::body_refusal(body), model::settled_refusal(body))
+fn slot_of(body: &[u8], stages: &[u8], counts: &[u32], stage: u8) -> Slot {
+    let slot = model::in_stage(body, stages, counts, stage);
+    Slot {
+        filled: slot.filled,
+        index: narrow(slot.index),
+        count: slot.count,
+    }
 }
 
-// The refusal on making a view.
-fn view(s: &[u8], body: &[u8]) -> bool {
-    expect(s, answer(s), model::body_refusal(body)) > 0
+fn state_of(body: &[u8], stages: &[u8], counts: &[u32]) -> State {
+    State {
+        fetched: narrow(model::fetched(body, stages)),
+        IF: slot_of(body, stages, counts, model::IF),
+        ID: slot_of(body, stages, counts, model::ID),
+        EX: slot_of(body, stages, counts, model::EX),
+        MEM: slot_of(body, stages, counts, model::MEM),
+        ST: slot_of(body, stages, counts, model::ST),
+        WB: slot_of(body, stages, counts, model::WB),
+    }
+}
+
+// A trace that is declined is run for no cycle, so that all is as at the start.
+fn run(s: &[u8], limit: u32, body: &[u8]) -> bool {
+    let refusal = model::settled_refusal(body);
+    let cycles = if refusal == 0 { limit } else { 0 };
+    let mut stages = [0u8; 4096];
+    let mut counts = [0u32; 4096];
+    let ran = model::run(body, cycles, &mut stages, &mut counts);
+    let left = ran.left & (refusal == 0);
+    says_state(
+        s,
+        refusal,
+        ran.cycles,
+        left,
+        state_of(body, &stages, &counts),
+    )
+}
+
+struct Outcome {
+    refusal: u32,
+    time: u32,
+}
+
+fn finished(body: &[u8]) -> Outcome {
+    let refusal = model::settled_refusal(body);
+    let time = if refusal == 0 { model::finish(body) } else { 0 };
+    Outcome { refusal, time }
+}
+
+// "10, 8, 11 of the first, then of the second"
+fn alike(s: &[u8], body: &[u8], beside: &[u8]) -> bool {
+    let one = finished(body);
+    let other = finished(beside);
+    let refusal = if one.refusal == 0 {
+        other.refusal
+    } else {
+        one.refusal
+    };
+    let same = (refusal == 0) & (one.time == other.time);
+    says(s, refusal, same as u32, 0)
+}
+
+fn bounded(call: u8, s: &[u8], deadline: u32, body: &[u8]) -> bool {
+    let refusal = model::body_refusal(body);
+    if refusal != 0 {
+        return says(s, refusal, 0, 0);
+    }
+    let found = model::bounds(body);
+    if call == b't' {
+        return says(s, 0, found.best, found.worst);
+    }
+    says_margin(s, 0, model::margin(deadline, found.worst))
 }
 
 // The refusals that come before 12.
 fn step(s: &[u8], body: &[u8]) -> bool {
     let refusal = model::settled_refusal(body);
-    (expect(s, answer(s), refusal) > 0) | ((refusal == 0) & (expect(s, answer(s), 12) > 0))
+    let told = first(s).value;
+    (told == refusal) | ((refusal == 0) & (told == 12))
 }
 
-fn expect_stage(
-    s: &[u8],
-    at: usize,
-    body: &[u8],
-    stages: &[u8],
-    counts: &[u32],
-    stage: u8,
-) -> usize {
-    let slot = model::in_stage(body, stages, counts, stage);
-    expect_slot(
-        s,
-        at,
-        Slot {
-            filled: slot.filled,
-            index: narrow(slot.index as u64),
-            count: slot.count,
-        },
-    )
-}
-
-fn says_places(s: &[u8], at: usize, body: &[u8], stages: &[u8], counts: &[u32]) -> bool {
-    let mut next = expect(s, at, narrow(model::fetched(body, stages) as u64));
-    let mut stage = model::IF;
-    while stage < model::POST {
-        next = expect_stage(s, next, body, stages, counts, stage);
-        stage += 1;
-    }
-    next == s.len()
-}
-
-fn run_in(s: &[u8], limit: u32, body: &[u8], stages: &mut [u8], counts: &mut [u32]) -> bool {
-    let ran = model::run(body, limit, stages, counts);
-    let told = expect_three(s, 0, ran.cycles, ran.left as u32);
-    says_places(s, told, body, stages, counts)
-}
-
-fn run(s: &[u8], at: usize, body: &[u8]) -> bool {
-    let refusal = model::settled_refusal(body);
-    if refusal != 0 {
-        return expect_three(s, refusal, 0, 0) > 0;
-    }
-    let mut stages = [0u8; 4096];
-    let mut counts = [0u32; 4096];
-    run_in(s, argument(s, at), body, &mut stages, &mut counts)
-}
-
-// The finishing time of a trace that is not declined.
-fn time_of(body: &[u8], refusal: u32) -> u32 {
-    if refusal == 0 { model::finish(body) } else { 0 }
-}
-
-fn finish(s: &[u8], body: &[u8]) -> bool {
-    let refusal = model::settled_refusal(body);
-    says_two(s, refusal, time_of(body, refusal))
-}
-
-fn times(s: &[u8], body: &[u8]) -> bool {
-    let refusal = model::body_refusal(body);
-    if refusal != 0 {
-        return expect_three(s, refusal, 0, 0) == s.len();
-    }
-    let found = model::bounds(body);
-    expect_three(s, 0, found.best, found.worst) == s.len()
-}
-
-fn margin(s: &[u8], at: usize, body: &[u8]) -> bool {
-    let refusal = model::body_refusal(body);
-    if refusal != 0 {
-        return says_margin(s, refusal, 0);
-    }
-    let deadline = argument(s, at);
-    says_margin(s, 0, model::margin(deadline, model::bounds(body).worst))
-}
-
-// "10, 8, 11 of the first, then of the second"
-fn of_both(body: &[u8], beside: &[u8]) -> u32 {
-    let refusal = model::settled_refusal(body);
-    if refusal != 0 {
-        return refusal;
-    }
-    model::settled_refusal(beside)
-}
-
-fn alike(s: &[u8], at: usize, body: &[u8], other: &[u8]) -> bool {
-    let beside = first(other, argument(s, at) as usize);
-    let refusal = of_both(body, beside);
-    let equal = time_of(body, refusal) == time_of(beside, refusal);
-    says_two(s, refusal, (equal & (refusal == 0)) as u32)
-}
-
-// Whether it answers the line as that says.
-pub fn answers(s: &[u8], call: u8, at: usize, body: &[u8], other: &[u8]) -> bool {
+// Whether it answers the line as that says; a call with a capital is not asked of it.
+pub fn answers(call: u8, s: &[u8], argument: u32, body: &[u8], beside: &[u8]) -> bool {
     match call {
-        b'o' => open(s, at, body),
-        b'w' => writing::writes(s, at, body, other, false),
-        b'c' => check_body(s, body),
-        b'v' => view(s, body),
+        b'o' => open(s, argument, body),
+        b'w' => writes(s, body, beside, false),
+        b'c' => says(
+            s,
+            model::body_refusal(body),
+            model::settled_refusal(body),
+            0,
+        ),
+        b'v' => first(s).value == model::body_refusal(body),
         b's' => step(s, body),
-        b'r' => run(s, at, body),
-        b'f' => finish(s, body),
-        b't' => times(s, body),
-        b'm' => margin(s, at, body),
-        b'a' => alike(s, at, body, other),
-        _ => false,
+        b't' | b'm' => bounded(call, s, argument, body),
+        b'r' => run(s, argument, body),
+        b'f' => {
+            let found = finished(body);
+            says(s, found.refusal, found.time, 0)
+        }
+        b'a' => alike(s, body, beside),
+        _ => true,
     }
 }
