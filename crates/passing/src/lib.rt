@@ -1,5 +1,5 @@
-// One pass over the records of an accepted body: for Run as far as its limit, for a finishing time to the end. Inner
-// functions, which require an accepted body.
+// One pass over the records of an accepted body: for Run as far as its limit, for a finishing time to the
+// end. Inner functions, which require an accepted body.
 pub mod pass;
 
 pub use pass::Reached;
