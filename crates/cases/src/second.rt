@@ -96,7 +96,8 @@ fn step(s: &[u8], body: &[u8]) -> bool {
     (told == refusal) | ((refusal == 0) & (told == 12))
 }
 
-// Whether it answers the line as that says; a call with a capital is not asked of it.
+// Whether it answers the line as that says; a call with a capital is not asked of it, and one that it does
+// not know it does not answer.
 pub fn answers(call: u8, s: &[u8], argument: u32, body: &[u8], beside: &[u8]) -> bool {
     match call {
         b'o' => open(s, argument, body),
@@ -116,6 +117,6 @@ pub fn answers(call: u8, s: &[u8], argument: u32, body: &[u8], beside: &[u8]) ->
             says(s, found.refusal, found.time, 0)
         }
         b'a' => alike(s, body, beside),
-        _ => true,
+        _ => call < b'a',
     }
 }

@@ -113,6 +113,7 @@ fn settled_check(body: &[u8]) -> u32 {
     11 * unknown as u32
 }
 
+/// With the last branch and the finish so far, as one would write it first; the engine's needs neither.
 #[derive(Clone, Copy, Default)]
 struct Window {
     id: u32,
