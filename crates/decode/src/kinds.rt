@@ -47,6 +47,12 @@ pub fn fetch_misses(f: Fields) -> bool
     f.fetch == MISS
 }
 
+pub fn access_hits(f: Fields) -> bool
+    ensures { λ r. ⌜ r ≡ hits (instructionOf f .access) ⌝ }
+{
+    f.access == HIT
+}
+
 pub fn access_misses(f: Fields) -> bool
     ensures { λ r. ⌜ r ≡ misses (instructionOf f .access) ⌝ }
 {

@@ -16,6 +16,7 @@ pub use counts::count_in_st;
 pub use counts::cycles_in_last;
 pub use kinds::HIT;
 pub use kinds::MISS;
+pub use kinds::access_hits;
 pub use kinds::access_misses;
 pub use kinds::fetch_hits;
 pub use kinds::holds_fetches;

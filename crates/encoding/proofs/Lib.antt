@@ -1,4 +1,5 @@
 pub mod Cases
+pub mod DelayedBody
 pub mod Encoding
 pub mod Fits
 pub mod Numbers

@@ -1,7 +1,6 @@
--- Every settling of an accepted body's trace is the trace of a body that no call refuses, since each of its records keeps the rules. The bodies in
--- which every unknown flag becomes a hit, or every one a miss, are such settlings. A body without unknown flags is its own only settling.
+-- Every settling of an accepted body's trace is the trace of a body that 10, 8 and 11 do not decline, since each of its records keeps the rules. The
+-- bodies in which every unknown flag becomes a hit, or every one a miss, are such settlings. A body without unknown flags is its own only settling.
 use Prim.Native.Nat.{ℕ, zero, suc, _≤_, _<_}
-use mathlib.Core.Bool.{false}
 use mathlib.Core.List.{List}
 use mathlib.Core.Path.{_≡_, ap, subst, _∙_}
 use native.Mathlib.Omega.{arith}
@@ -21,6 +20,23 @@ use Rattle.encoding.proofs.Encoding.{records-bodyOf}
 use Rattle.encoding.proofs.RoundTrip.{fields-bodyOf, accepted-is-encoded, encoding-is-decoded}
 use Rattle.encoding.proofs.SettledRecord.{settled-lawful, known-record}
 
+-- a trace whose records keep the rules and have no unknown flag is the trace of a body that 10, 8 and 11 do not decline
+pub trace-is-body :
+    (trace : Trace) →
+    length trace ≤ maxInstructions →
+    ((k : ℕ) → k < length trace → Lawful (instruction trace k)) →
+    ((k : ℕ) → k < length trace → Known (instruction trace k)) →
+    Bytes (bodyOf trace) × (settledRefusal (bodyOf trace) ≡ 0) × (traceOf (bodyOf trace) ≡ trace)
+unfolding unknownAt
+trace-is-body trace few lawful known =
+    let decoded = encoding-is-decoded trace few lawful in (
+      decoded .1,
+      settled-of (bodyOf trace) (decoded .2) λ k l.
+          let inside : k < length trace = omega (arith, records-bodyOf trace) in
+          ap hasUnknown (fields-bodyOf trace k inside) ∙ known-record (instruction trace k) (known k inside),
+      decoded .0,
+    )
+
 module _ (body : List ℕ) (b : Bytes body) (accepted : bodyRefusal body ≡ 0) (settling : Trace) (h : Settling (traceOf body) settling) where
   same-length : length settling ≡ records body
   same-length = settling-length h ∙ length-traceOf body
@@ -32,26 +48,20 @@ module _ (body : List ℕ) (b : Bytes body) (accepted : bodyRefusal body ≡ 0) 
       (instruction-traceOf body k l)
       (settling-at h k (omega (arith, length-traceOf body)))
 
-  few : length settling ≤ maxInstructions
-  few = omega (arith, same-length, few-records body accepted)
+  pub settling-few : length settling ≤ maxInstructions
+  settling-few = omega (arith, same-length, few-records body accepted)
 
-  lawful : (k : ℕ) → k < length settling → Lawful (instruction settling k)
+  pub settling-lawful : (k : ℕ) → k < length settling → Lawful (instruction settling k)
   unfolding breaksAt
-  lawful k l =
+  settling-lawful k l =
       let inside : k < records body = omega (arith, same-length) in
       settled-lawful (fieldsAt body k) _ (settled-at k inside) _ (breaks-none body accepted k inside) (fields-within body accepted b k inside)
 
-  known-at : (k : ℕ) → k < records (bodyOf settling) → unknownAt (bodyOf settling) k ≡ false
-  unfolding unknownAt
-  known-at k l =
-      let inside : k < length settling = omega (arith, records-bodyOf settling) in
-      ap hasUnknown (fields-bodyOf settling k inside)
-      ∙ known-record (instruction settling k) (settled-known (settled-at k (omega (arith, same-length))))
+  pub settling-known : (k : ℕ) → k < length settling → Known (instruction settling k)
+  settling-known k l = settled-known (settled-at k (omega (arith, same-length)))
 
   settling-is-body : Bytes (bodyOf settling) × (settledRefusal (bodyOf settling) ≡ 0) × (traceOf (bodyOf settling) ≡ settling)
-  settling-is-body =
-      let decoded = encoding-is-decoded settling few lawful in
-      (decoded .1, settled-of (bodyOf settling) (decoded .2) known-at, decoded .0)
+  settling-is-body = trace-is-body settling settling-few settling-lawful settling-known
 
 pub settlings-are-bodies : SettlingsAreBodies
 settlings-are-bodies = settling-is-body
@@ -74,7 +84,7 @@ module _ (to : Flag) (u : Settled unknown to) (body : List ℕ) (b : Bytes body)
   pub settled-body-settles : Settling (traceOf body) (traceOf (settledBody to body))
   settled-body-settles = rw settled-body-decoded (settles to u (traceOf body))
 
--- A body that no call refuses has no unknown flag, so it is its own only settling.
+-- A body that 11 does not decline has no unknown flag, so it is its own only settling.
 flag-known : (n : ℕ) → n ≤ 1 → ¬ (flagOf n ≡ unknown)
 unfolding flagOf
 flag-known zero l e = let z : _≡_ {A = ℕ} 0 1 = cc in omega arith

@@ -6,7 +6,7 @@ use mathlib.Core.List.{List, [], _∷_, _++_, map}
 use lib.Dec.{T}
 use lib.ListN.{length}
 use Rattle.machine.specs.Instruction.{Instruction, Trace, instruction}
-use Rattle.machine.specs.Time.{Settling}
+use Rattle.machine.specs.Time.{Settling, Delayed}
 use Rattle.machine.specs.State.{maxInstructions}
 use Rattle.machine.specs.Cases.{cases, further, caseD}
 use Rattle.record.specs.Body.{Bytes, breaksAt, traceOf, bodyRefusal, settledRefusal}
@@ -46,7 +46,7 @@ EncodingIsDecoded =
     ((k : ℕ) → k < length trace → Lawful (instruction trace k)) →
     (traceOf (bodyOf trace) ≡ trace) × Bytes (bodyOf trace) × (bodyRefusal (bodyOf trace) ≡ 0)
 
--- Every settling of an accepted body's trace is the trace of a body, which no call refuses.
+-- Every settling of an accepted body's trace is the trace of a body, which 10, 8 and 11 do not decline.
 abbrev pub SettlingsAreBodies : Type 0
 SettlingsAreBodies =
     (body : List ℕ) →
@@ -55,3 +55,20 @@ SettlingsAreBodies =
     (settling : Trace) →
     Settling (traceOf body) settling →
     Bytes (bodyOf settling) × (settledRefusal (bodyOf settling) ≡ 0) × (traceOf (bodyOf settling) ≡ settling)
+
+-- both latencies fit their two bytes
+pub record LatenciesFit (i : Instruction) : Type 0 where
+  pub fetch : i .fetchLatency < 65536
+  pub access : i .dataLatency < 65536
+
+-- So is every settling that is delayed, as long as its latencies fit.
+abbrev pub DelayedAreBodies : Type 0
+DelayedAreBodies =
+    (body : List ℕ) →
+    Bytes body →
+    bodyRefusal body ≡ 0 →
+    (settling version : Trace) (longest : ℕ) →
+    Settling (traceOf body) settling →
+    Delayed longest settling version →
+    ((k : ℕ) → k < length version → LatenciesFit (instruction version k)) →
+    Bytes (bodyOf version) × (settledRefusal (bodyOf version) ≡ 0) × (traceOf (bodyOf version) ≡ version)

@@ -29,11 +29,13 @@ pub mod Slower
 pub mod Longer
 pub mod Settled
 pub mod Settlings
+pub mod Delays
 pub mod RunStates
 pub mod Window
 pub mod Dominance
 pub mod FetchTime
 pub mod StageTimes
+pub mod UnderWay
 pub mod LastLeaves
 pub mod WindowTimes
 pub mod WindowBounds

@@ -22,7 +22,7 @@ flag-above-hits miss-stays = miss-miss
 flag-above-hits unknown-hits = hit-hit
 flag-above-hits unknown-misses = hit-miss
 
-flag-below-misses : {f g : Flag} → Settled f g → FlagTo g (settleFlag miss f)
+pub flag-below-misses : {f g : Flag} → Settled f g → FlagTo g (settleFlag miss f)
 unfolding settleFlag
 flag-below-misses hit-stays = hit-hit
 flag-below-misses miss-stays = miss-miss

@@ -82,22 +82,34 @@ registers source1 source2 target i =
 settledCase : Trace → ℕ → Case
 settledCase trace time = record { trace = trace; best = time; worst = time }
 
+unfoldable pub caseC : Trace
+unfolding simple
+caseC = simple load miss 10 ∷ []
+
 unfoldable pub caseD : Trace
 unfolding simple plainOne registers
 caseD = registers 0 0 1 (simple load hit 1) ∷ registers 1 0 2 plainOne ∷ []
 
+unfoldable pub caseF : Trace
+unfolding simple plainOne fetched
+caseF = simple load hit 1 ∷ fetched miss 10 plainOne ∷ []
+
+unfoldable pub caseI : Trace
+unfolding simple
+caseI = simple store miss 10 ∷ []
+
 unfoldable pub cases : List Case
-unfolding simple plainOne fetched registers settledCase caseD
+unfolding simple plainOne fetched settledCase caseC caseD caseF caseI
 cases =
     settledCase [] 0
     ∷ settledCase (plainOne ∷ []) 6
-    ∷ settledCase (simple load miss 10 ∷ []) 16
+    ∷ settledCase caseC 16
     ∷ settledCase caseD 8
     ∷ settledCase (simple branch hit 0 ∷ plainOne ∷ []) 9
-    ∷ settledCase (simple load hit 1 ∷ fetched miss 10 plainOne ∷ []) 20
+    ∷ settledCase caseF 20
     ∷ settledCase (simple load miss 10 ∷ plainOne ∷ []) 17
     ∷ settledCase (simple load miss 10 ∷ fetched miss 1 plainOne ∷ []) 21
-    ∷ settledCase (simple store miss 10 ∷ []) 15
+    ∷ settledCase caseI 15
     ∷ settledCase (simple store miss 10 ∷ simple store miss 10 ∷ []) 26
     ∷ settledCase (simple store miss 10 ∷ simple store hit 1 ∷ []) 16
     ∷ record { trace = simple load unknown 10 ∷ fetched unknown 1 plainOne ∷ []; best = 7; worst = 21 }

@@ -1,5 +1,5 @@
 -- What is shown of the rules, as named types. `proofs/` has a term of each. The sentences are document 01's and, where it says so, the order's
--- (docs/CLAIMS.md has its three demands).
+-- (docs/CLAIMS.md has its three demands) or document 02's.
 use Prim.Native.Nat.{ℕ, _+_, _≤_, _<_}
 use mathlib.Core.Bool.{Bool, true, false, not}
 use mathlib.Core.Logic.{_↔_}
@@ -9,8 +9,9 @@ use lib.ListN.{length}
 use Rattle.machine.specs.Test.{_and_, _or_, every}
 use Rattle.machine.specs.Instruction.{hit, miss, Trace, instruction}
 use Rattle.machine.specs.Rules.{Stage, post, next, same, Places, further, ready, moves, willBeFree, cycle, after, allLeft}
-use Rattle.machine.specs.Time.{bound, finish, Settling, Known, settle, best, worst}
+use Rattle.machine.specs.Time.{bound, finish, Settling, Delayed, Known, settle, best, worst}
 use Rattle.machine.specs.Order.{Slower, SameFlags, added}
+use Rattle.machine.specs.Bus.{busTime, Access, UnderWay}
 use Rattle.machine.specs.Cases.{cases, further as furtherCases, casesHold, caseD, rows, chartOfD}
 use Rattle.machine.specs.State.{start, placeOf, stateOf, Orderly, orderly}
 use Rattle.machine.specs.declared.State.{State}
@@ -91,6 +92,25 @@ OnlySettling =
     Settling trace settling →
     ((k : ℕ) → k < length trace → Known (instruction trace k)) →
     settling ≡ trace
+
+-- document 02, F-1: "It must hold for every settling of the flags and every added wait from 0 to d on each missed access."
+abbrev pub DelayedNoLater : Type 0
+DelayedNoLater =
+    (trace settling version : Trace) (longest : ℕ) →
+    Settling trace settling →
+    Delayed longest settling version →
+    finish version ≤ busTime trace longest
+
+-- document 02, F-1: "from the start, at most one of these is under way after any cycle": two accesses that are under way are the same access of the
+-- same instruction.
+abbrev pub OneUnderWay : Type 0
+OneUnderWay =
+    (trace : Trace) (t i j : ℕ) (a b : Access) →
+    i < length trace →
+    j < length trace →
+    UnderWay (instruction trace i) (after trace t i) a →
+    UnderWay (instruction trace j) (after trace t j) b →
+    (i ≡ j) × (a ≡ b)
 
 -- The test of orderly states is equivalent to the definition.
 abbrev pub OrderlyIsTested : Type 0

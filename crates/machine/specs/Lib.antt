@@ -3,6 +3,7 @@ pub mod Instruction
 pub mod Rules
 pub mod Time
 pub mod Order
+pub mod Bus
 pub mod Cases
 pub mod Claims
 pub mod State

@@ -1,10 +1,10 @@
--- Finishing times, settlings, best and worst: document 01, "One cycle" and "Job file and instruction record".
-use Prim.Native.Nat.{ℕ, zero, suc, _+_, _*_}
-use mathlib.Core.Bool.{Bool, true, false}
+-- Finishing times, settlings, best and worst: document 01, "One cycle" and "Job file and instruction record"; and delayed traces: document 02, F-1.
+use Prim.Native.Nat.{ℕ, zero, suc, _+_, _*_, _≤_}
+use mathlib.Core.Bool.{Bool, true, false, cond}
 use mathlib.Core.List.{[], _∷_}
 use mathlib.Core.Path.{_≡_}
 use Rattle.machine.specs.Instruction.{Flag, hit, miss, unknown, Instruction, Trace}
-use Rattle.machine.specs.Rules.{after, allLeft}
+use Rattle.machine.specs.Rules.{misses, missesData, after, allLeft}
 use Rattle.machine.specs.State.{maxInstructions}
 
 -- "the sum over all instructions of 6 plus the three latencies"
@@ -12,9 +12,13 @@ unfoldable pub bound : Trace → ℕ
 bound [] = 0
 bound (i ∷ trace) = (6 + i .executionLatency + i .fetchLatency + i .dataLatency) + bound trace
 
--- what an instruction adds at most, with an execution latency to 255, and fetch and data latencies to 65,535
+-- the longest fetch or data latency: "1 to 65,535"
+abbrev pub maxLatency : ℕ
+maxLatency = 65535
+
+-- what an instruction adds at most, with an execution latency to 255
 abbrev pub mostCycles : ℕ
-mostCycles = 6 + 255 + 65535 + 65535
+mostCycles = 6 + 255 + maxLatency + maxLatency
 
 -- "so at most 537,931,776"
 abbrev pub maxTime : ℕ
@@ -50,6 +54,34 @@ pub record SettledInstruction (i s : Instruction) : Type 0 where
 pub data Settling : Trace → Trace → Type 0 where
   settled-none : Settling [] []
   settled-more : {i s : Instruction} {trace settling : Trace} → SettledInstruction i s → Settling trace settling → Settling (i ∷ trace) (s ∷ settling)
+
+-- the instruction with waits, one for its fetch and one for its data access; only an access that is missed takes longer
+unfoldable pub withWaits : ℕ → ℕ → Instruction → Instruction
+withWaits onFetch onData i =
+    record {
+      kind = i .kind;
+      fetch = i .fetch;
+      access = i .access;
+      source1 = i .source1;
+      source2 = i .source2;
+      target = i .target;
+      executionLatency = i .executionLatency;
+      fetchLatency = i .fetchLatency + cond (misses (i .fetch)) onFetch 0;
+      dataLatency = i .dataLatency + cond (missesData i) onData 0;
+    }
+
+-- document 02, F-1: "every added wait from 0 to d on each missed access": delayed by at most d, the longest wait, each missed access by a wait of
+-- its own, and nothing else differs
+pub record DelayedInstruction (longest : ℕ) (i v : Instruction) : Type 0 where
+  pub onFetch : ℕ
+  pub onData : ℕ
+  pub fetchWithin : onFetch ≤ longest
+  pub dataWithin : onData ≤ longest
+  pub waited : v ≡ withWaits onFetch onData i
+
+pub data Delayed (longest : ℕ) : Trace → Trace → Type 0 where
+  delayed-none : Delayed longest [] []
+  delayed-more : {i v : Instruction} {trace version : Trace} → DelayedInstruction longest i v → Delayed longest trace version → Delayed longest (i ∷ trace) (v ∷ version)
 
 -- an instruction without an unknown flag
 pub record Known (i : Instruction) : Type 0 where
