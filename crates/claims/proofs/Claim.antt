@@ -53,13 +53,13 @@ same-records first second c = sym (length-traceOf second) ∙ slower-length (c .
 
 -- what the calls answer for a body that they do not refuse
 module _ (body : List ℕ) where
-  run-answered : Passes settledRefusal body → (limit i : ℕ) → i < records body → calls .places body limit i ≡ rules .places body limit i
+  pub run-answered : Passes settledRefusal body → (limit i : ℕ) → i < records body → calls .places body limit i ≡ rules .places body limit i
   unfolding runAnswer ranFor
   run-answered p limit i l =
       rw (eq-eqb (settledRefusal body) 0 (p .passes))
       (run-stops-places (traceOf body) limit i (omega (arith, length-traceOf body)))
 
-  finish-answered : Passes settledRefusal body → calls .time body ≡ rules .time body
+  pub finish-answered : Passes settledRefusal body → calls .time body ≡ rules .time body
   unfolding finishAnswer
   finish-answered p = rw (eq-eqb (settledRefusal body) 0 (p .passes))
 

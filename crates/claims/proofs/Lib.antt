@@ -1,2 +1,4 @@
+pub mod Bus
+pub mod BusCases
 pub mod Cases
 pub mod Claim

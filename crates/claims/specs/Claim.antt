@@ -14,7 +14,7 @@ use Rattle.record.specs.Body.{Bytes, records, traceOf, bodyRefusal, settledRefu
 use Rattle.running.specs.Run.{runAnswer}
 use Rattle.timing.specs.Answers.{finishAnswer, bestWorstAnswer}
 
--- a body that the refusals let pass: 10 and 8, any accepted trace; 10, 8 and 11, one without unknown flags
+-- a body that the refusals let pass: with 10 and 8 any accepted trace, with 10, 8 and 11 one without unknown flags, and so on
 pub record Passes (refusal : List ℕ → ℕ) (body : List ℕ) : Type 0 where
   pub bytes : Bytes body
   pub passes : refusal body ≡ 0
@@ -87,7 +87,7 @@ calls =
       worst = λ body. bestWorstAnswer body .worst;
     }
 
--- a settling of the body's trace is itself the trace of a body, which no call refuses
+-- a settling of the body's trace is itself the trace of a body, which 10, 8 and 11 do not decline
 pub record Embodied (body : List ℕ) (settling : Trace) : Type 0 where
   pub encoding : List ℕ
   pub settles : SettlingOf body encoding

@@ -1,0 +1,101 @@
+-- The time on a shared bus for A to L, by computation.
+use Prim.Native.Nat.{ℕ, zero, suc, _≤_, _<_}
+use mathlib.Core.List.{[], _∷_}
+use mathlib.Core.Path.{_≡_, refl, ap, _∙_}
+use native.Mathlib.Omega.{arith}
+use lib.ListN.{length}
+use Rattle.machine.specs.Test.{_and_, _or_, every, none}
+use Rattle.machine.specs.Instruction.{miss, Trace, instruction}
+use Rattle.machine.specs.Rules.{next, further as furtherOn, shortOf, entry, noOlder, reads, missesData, readyIn, ready, budget, movesWithin, moves, cycle, allPre, after, allLeft}
+use Rattle.machine.specs.State.{maxInstructions}
+use Rattle.machine.specs.Time.{bound, leastFrom, finish, unknown-misses, withWaits, Delayed, delayed-none, delayed-more, settleFlag, settleInstruction, settle, worst}
+use Rattle.machine.specs.Bus.{countsFetch, countsData, accessesOf, accesses, busTime, fetch-in-IF, load-in-MEM, store-in-ST, store-in-MEM}
+use Rattle.machine.specs.Cases.{cases, caseC, caseF, caseI}
+use Rattle.machine.proofs.Settlings.{settles}
+use Rattle.record.specs.Refusal.{_then_, _unless_}
+use Rattle.record.specs.Layout.{fieldsFrom, recordBytes}
+use Rattle.record.specs.Rules.{breaksRules, kindOf, flagOf, instructionOf, fieldsOf}
+use Rattle.record.specs.Body.{breaksAt, firsts, traceOf, lengthRefusal, recordRefusal, bodyRefusal}
+use Rattle.encoding.specs.Encoding.{recordOf, bodyOf}
+use Rattle.encoding.specs.Claims.{Lawful}
+use Rattle.encoding.proofs.RoundTrip.{trace-again, encoding-is-decoded}
+use Rattle.bus.specs.Answers.{exceeds, exceedsAt, waitRefusal, busRefusal, busAnswer}
+use Rattle.claims.specs.Bus.{EmbodiedVersion}
+use Rattle.claims.specs.BusCases.{BusAnswered, LongWaitDeclined, WaitsAttain, TimeAttained, EachUnderWay}
+use Rattle.claims.proofs.Claim.{finish-answered}
+use Rattle.claims.proofs.Bus.{time-holds}
+
+pub bus-answered : BusAnswered
+unfolding _and_ _or_ every none next furtherOn shortOf entry noOlder reads missesData readyIn ready budget movesWithin moves cycle allPre after allLeft bound leastFrom finish settle worst countsFetch countsData accessesOf accesses busTime cases _then_ _unless_ fieldsFrom breaksRules kindOf flagOf instructionOf breaksAt firsts traceOf recordOf recordBytes fieldsOf bodyOf lengthRefusal recordRefusal bodyRefusal exceeds exceedsAt waitRefusal busRefusal busAnswer
+bus-answered = refl
+
+pub long-wait-declined : LongWaitDeclined
+unfolding _and_ _or_ every none countsFetch countsData cases caseC _then_ _unless_ fieldsFrom breaksRules kindOf flagOf instructionOf breaksAt recordOf recordBytes fieldsOf bodyOf lengthRefusal recordRefusal bodyRefusal exceeds exceedsAt waitRefusal busRefusal busAnswer
+long-wait-declined = (refl, refl)
+
+-- every missed access with a wait of 10
+waiting : Trace → Trace
+waiting [] = []
+waiting (i ∷ trace) = withWaits 10 10 i ∷ waiting trace
+
+all-wait : (trace : Trace) → Delayed 10 trace (waiting trace)
+unfolding waiting
+all-wait [] = delayed-none
+all-wait (i ∷ trace) =
+    delayed-more (record { onFetch = 10; onData = 10; fetchWithin = omega arith; dataWithin = omega arith; waited = refl }) (all-wait trace)
+
+module _
+    (trace : Trace)
+    (few : length trace ≤ maxInstructions)
+    (lawful : (k : ℕ) → k < length trace → Lawful (instruction trace k))
+    (passes : busRefusal (bodyOf trace) 10 ≡ 0)
+    (finishes : finish (waiting (settle miss trace)) ≡ busAnswer (bodyOf trace) 10 .time) where
+  as-body : EmbodiedVersion (bodyOf trace) 10 (waiting (settle miss trace))
+  as-body =
+      time-holds .2 (bodyOf trace) 10
+      (record { bytes = encoding-is-decoded trace few lawful .1; passes = passes })
+      (settle miss trace)
+      (waiting (settle miss trace))
+      (rw (trace-again trace) (settles miss unknown-misses trace))
+      (all-wait (settle miss trace))
+
+  attained : WaitsAttain trace 10
+  attained =
+      record {
+        version = as-body .encoding;
+        isVersion = as-body .isVersion;
+        attains = finish-answered (as-body .encoding) (as-body .isVersion .passes) ∙ ap finish (as-body .decodes) ∙ finishes;
+      }
+
+lawful-C : (k : ℕ) → k < length caseC → Lawful (instruction caseC k)
+unfolding fieldsFrom breaksRules breaksAt recordOf recordBytes fieldsOf caseC
+lawful-C zero l = record { executionLatency = omega arith; fetchLatency = omega arith; dataLatency = omega arith; rules = refl }
+lawful-C (suc k) l = absurd (omega arith)
+
+lawful-F : (k : ℕ) → k < length caseF → Lawful (instruction caseF k)
+unfolding fieldsFrom breaksRules breaksAt recordOf recordBytes fieldsOf caseF
+lawful-F zero l = record { executionLatency = omega arith; fetchLatency = omega arith; dataLatency = omega arith; rules = refl }
+lawful-F (suc zero) l = record { executionLatency = omega arith; fetchLatency = omega arith; dataLatency = omega arith; rules = refl }
+lawful-F (suc (suc k)) l = absurd (omega arith)
+
+lawful-I : (k : ℕ) → k < length caseI → Lawful (instruction caseI k)
+unfolding fieldsFrom breaksRules breaksAt recordOf recordBytes fieldsOf caseI
+lawful-I zero l = record { executionLatency = omega arith; fetchLatency = omega arith; dataLatency = omega arith; rules = refl }
+lawful-I (suc k) l = absurd (omega arith)
+
+pub time-attained : TimeAttained
+unfolding _and_ _or_ every none next furtherOn shortOf entry noOlder reads missesData readyIn ready budget movesWithin moves cycle allPre after allLeft bound leastFrom finish withWaits settleFlag settleInstruction settle worst countsFetch countsData accessesOf accesses busTime caseC caseF caseI _then_ _unless_ fieldsFrom breaksRules kindOf flagOf instructionOf breaksAt firsts traceOf recordOf recordBytes fieldsOf bodyOf lengthRefusal recordRefusal bodyRefusal exceeds exceedsAt waitRefusal busRefusal busAnswer waiting
+time-attained = (
+  attained caseC (omega arith) lawful-C refl refl,
+  attained caseF (omega arith) lawful-F refl refl,
+  attained caseI (omega arith) lawful-I refl refl,
+)
+
+pub each-under-way : EachUnderWay
+unfolding _and_ _or_ every none next furtherOn shortOf entry noOlder reads missesData readyIn ready budget movesWithin moves cycle allPre after caseC caseF caseI
+each-under-way = (
+  fetch-in-IF refl refl (omega arith),
+  load-in-MEM refl refl refl (omega arith),
+  store-in-ST refl refl refl (omega arith),
+  store-in-MEM refl refl refl,
+)
