@@ -44,7 +44,8 @@ enum sic_refusal {
     SIC_UNKNOWN_FLAG = 11,    /* a flag is unknown where each must be a hit or a miss */
     SIC_NOT_ORDERLY = 12,     /* the state is not orderly */
     SIC_WRONG_RECORDS = 13,   /* the records are not ten bytes for each instruction counted */
-    SIC_SHORT_OUTPUT = 14     /* the output is shorter than the file */
+    SIC_SHORT_OUTPUT = 14,    /* the output is shorter than the file */
+    SIC_LONG_WAIT = 15        /* a counted latency plus the wait exceeds 65,535 */
 };
 
 #define SIC_MAX_INSTRUCTIONS 4096
@@ -122,6 +123,11 @@ typedef struct {
     bool alike;
 } sic_likeness;
 
+/* `accesses` counts the fetches, and the data accesses of loads and stores, that are marked miss or unknown. */
+typedef struct {
+    uint32_t refusal, accesses, time;
+} sic_time_on_bus;
+
 /* `traces` is how many the file has; `length` 0 where no report was written. */
 typedef struct {
     uint32_t refusal;
@@ -165,6 +171,11 @@ sic_deadline_margin sic_margin(const uint8_t *body, size_t body_length, uint32_t
 
 /* Alike: whether the finishing times are equal. 10, 8, 11 of the first, then of the second. */
 sic_likeness sic_alike(const uint8_t *first, size_t first_length, const uint8_t *second, size_t second_length);
+
+/* Time on a shared bus, where other cores make each memory access wait for at most `wait` cycles: worst plus
+ * `wait` for each access counted. No settling of the flags finishes later, whichever waits from 0 to `wait`
+ * are added to its misses. 10, 8, 15, which is judged on the counted accesses alone. */
+sic_time_on_bus sic_bus_time(const uint8_t *body, size_t body_length, uint16_t wait);
 
 /* The chart of the file's first trace as text, or the line that tells the refusal; its length. An
  * output of fewer than SIC_CHART_BYTES bytes stays as it is, and the length is 0. */

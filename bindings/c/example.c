@@ -8,8 +8,11 @@ static const uint8_t plain[10] = {0, 0, 0, 0, 0, 0, 1, 0, 0, 0};
 static void times(void) {
     sic_best_and_worst t = sic_best_worst(task, sizeof task);
     sic_deadline_margin late = sic_margin(task, sizeof task, 10);
+    sic_time_on_bus bus = sic_bus_time(task, sizeof task, 5);
+    sic_time_on_bus long_wait = sic_bus_time(task, sizeof task, UINT16_MAX);
     sic_likeness same = sic_alike(plain, sizeof plain, plain, sizeof plain);
     printf("best %u, worst %u, margin %lld\n", t.best, t.worst, (long long)late.margin);
+    printf("on a bus %u, with %u access that may wait, of a long wait refused %u\n", bus.time, bus.accesses, long_wait.refusal);
     printf("finish %u, of an unknown flag refused %u\n", sic_finish(plain, sizeof plain).time, sic_finish(task, sizeof task).refusal);
     printf("alike %d, of a cut body refused %u\n", same.alike, sic_check(plain, 9));
 }

@@ -152,6 +152,22 @@ static void times(void) {
     IS(a.refusal, SIC_UNKNOWN_FLAG), IS(a.alike, false);
 }
 
+/* The task's load is counted, its fetches hit; the body of states has the misses of its instructions 1, 4, 7 and 8. */
+static void bus_times(void) {
+    sic_time_on_bus b = sic_bus_time(task, sizeof task, 0);
+    IS(b.refusal, 0), IS(b.accesses, 1), IS(b.time, 18);
+    b = sic_bus_time(task, sizeof task, UINT16_MAX - 10);
+    IS(b.refusal, 0), IS(b.accesses, 1), IS(b.time, 18 + UINT16_MAX - 10);
+    b = sic_bus_time(task, sizeof task, UINT16_MAX - 9);
+    IS(b.refusal, SIC_LONG_WAIT), IS(b.accesses, 0), IS(b.time, 0);
+    b = sic_bus_time(body, sizeof body, 300);
+    IS(b.refusal, 0), IS(b.accesses, 4), IS(b.time, sic_finish(body, sizeof body).time + 4 * 300);
+    b = sic_bus_time(plain, sizeof plain, UINT16_MAX);
+    IS(b.refusal, 0), IS(b.accesses, 0), IS(b.time, 7);
+    b = sic_bus_time(task, 11, UINT16_MAX);
+    IS(b.refusal, SIC_WRONG_LENGTH), IS(b.accesses, 0), IS(b.time, 0);
+}
+
 static void records(void) {
     static const uint8_t any[20] = {0, 0, 0, 0, 0, 0, 0, 0, 0, 0, 211, 0xf9, 33, 44, 55, 66, 0x34, 0x12, 0x78, 0x56};
     sic_read r = sic_record(any, sizeof any, 1);
@@ -202,6 +218,7 @@ int main(void) {
     handed_back();
     runs();
     times();
+    bus_times();
     records();
     files();
     limits();

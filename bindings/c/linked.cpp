@@ -1,8 +1,11 @@
-// A call from C++, which finds it only under C's name.
+// Calls from C++, which finds them only under C's names.
 #include "sic.h"
 
 int main() {
     const uint8_t plain[10] = {0, 0, 0, 0, 0, 0, 1, 0, 0, 0};
     const sic_finished finished = sic_finish(plain, sizeof plain);
-    return finished.refusal == 0 && finished.time == 6 ? 0 : 1;
+    if (finished.refusal != 0 || finished.time != 6) return 1;
+    const uint8_t unknown_fetch[10] = {0, 2, 0, 0, 0, 0, 10, 0, 0, 0};
+    const sic_time_on_bus bus = sic_bus_time(unknown_fetch, sizeof unknown_fetch, 7);
+    return bus.refusal == 0 && bus.accesses == 1 && bus.time == 23 ? 0 : 1;
 }

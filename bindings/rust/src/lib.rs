@@ -100,6 +100,13 @@ pub struct BestAndWorst {
     pub worst: u32,
 }
 
+/// How many memory accesses other cores may make wait, and the time by which all have left even so.
+#[derive(Clone, Copy, Debug, PartialEq, Eq)]
+pub struct TimeOnBus {
+    pub accesses: u32,
+    pub time: u32,
+}
+
 /// A body that was checked, and its records.
 #[derive(Clone, Copy, Debug)]
 pub struct View<'a> {
@@ -191,6 +198,23 @@ pub fn margin(body: &[u8], deadline: u32) -> Result<i64, Refusal> {
 pub fn alike(first: &[u8], second: &[u8]) -> Result<bool, Refusal> {
     let likeness = unsafe { raw::sic_alike(first.as_ptr(), first.len(), second.as_ptr(), second.len()) };
     answer(likeness.refusal, likeness.alike)
+}
+
+/// The worst time on a bus where other cores make each memory access wait for at most `wait` cycles: `wait` is added once for
+/// each fetch, and each data access of a load or store, that is marked miss or unknown. No settling of the flags finishes
+/// later, whichever waits from 0 to `wait` are added to its misses. Refuses 10, 8, 15, which a latency that hits never gives.
+///
+/// ```
+/// use sic::{TimeOnBus, Refusal};
+///
+/// let unknown_fetch = [0, 2, 0, 0, 0, 0, 10, 0, 0, 0];
+/// assert_eq!(sic::bus_time(&unknown_fetch, 7), Ok(TimeOnBus { accesses: 1, time: 16 + 7 }));
+/// assert_eq!(sic::bus_time(&unknown_fetch, 65526), Err(Refusal::LongWait));
+/// ```
+#[inline]
+pub fn bus_time(body: &[u8], wait: u16) -> Result<TimeOnBus, Refusal> {
+    let bus = unsafe { raw::sic_bus_time(body.as_ptr(), body.len(), wait) };
+    answer(bus.refusal, TimeOnBus { accesses: bus.accesses, time: bus.time })
 }
 
 /// The chart of a job file's first trace, or the line that tells its refusal.

@@ -1,7 +1,7 @@
 //! Why a call declines.
 use std::fmt;
 
-/// Document 01's refusal numbers.
+/// The refusal numbers of documents 01 and 02.
 #[derive(Clone, Copy, Debug, PartialEq, Eq, Hash, PartialOrd, Ord)]
 #[repr(u32)]
 pub enum Refusal {
@@ -19,9 +19,10 @@ pub enum Refusal {
     NotOrderly = 12,
     WrongRecords = 13,
     ShortOutput = 14,
+    LongWait = 15,
 }
 
-const ALL: [Refusal; 14] = [
+const ALL: [Refusal; 15] = [
     Refusal::TooLong,
     Refusal::TooShort,
     Refusal::TooManyTraces,
@@ -36,10 +37,11 @@ const ALL: [Refusal; 14] = [
     Refusal::NotOrderly,
     Refusal::WrongRecords,
     Refusal::ShortOutput,
+    Refusal::LongWait,
 ];
 
 impl Refusal {
-    /// The number that document 01 gives it.
+    /// The number that the documents give it.
     pub fn number(self) -> u32 {
         self as u32
     }
@@ -65,6 +67,7 @@ impl Refusal {
             Refusal::NotOrderly => "the state is not orderly",
             Refusal::WrongRecords => "the records are not ten bytes for each instruction counted",
             Refusal::ShortOutput => "the output is shorter than the file",
+            Refusal::LongWait => "a counted latency plus the wait exceeds 65,535",
         }
     }
 }
@@ -82,6 +85,6 @@ impl std::error::Error for Refusal {}
 pub(crate) fn answer<T>(number: u32, value: T) -> Result<T, Refusal> {
     match number {
         0 => Ok(value),
-        n => Err(Refusal::of(n).expect("a number that document 01 fixes")),
+        n => Err(Refusal::of(n).expect("a number that the documents fix")),
     }
 }

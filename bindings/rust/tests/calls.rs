@@ -55,6 +55,68 @@ fn margins_and_limits_of_b() {
     }
 }
 
+fn bus_time(trace: &[Instruction], wait: u16) -> Result<(u32, u32), u32> {
+    sic::bus_time(&encode(trace), wait).map(|b| (b.accesses, b.time)).map_err(Refusal::number)
+}
+
+/// Every access that document 02 counts, one at a time: fetches of each kind, and the data accesses of loads and stores.
+fn one_access(flag: u8, latency: u16) -> Vec<Instruction> {
+    let fetch = |i: Instruction| Instruction { fetch: flag, fetch_latency: latency, ..i };
+    let each = [plain(), memory(LOAD, HIT, 1), memory(STORE, HIT, 1), Instruction { kind: BRANCH, ..plain() }];
+    each.map(fetch).into_iter().chain([memory(LOAD, flag, latency), memory(STORE, flag, latency)]).collect()
+}
+
+#[test]
+fn bus_times_at_their_borders() {
+    assert_eq!(bus_time(&[], 0), Ok((0, 0)));
+    assert_eq!(bus_time(&[], u16::MAX), Ok((0, 0)));
+    assert_eq!(bus_time(&[plain()], u16::MAX), Ok((0, 6)));
+    for access in [MISS, UNKNOWN].into_iter().flat_map(|flag| one_access(flag, 1)) {
+        let worst = sic::best_worst(&encode(&[access])).unwrap().worst;
+        assert_eq!(bus_time(&[access], 0), Ok((1, worst)), "{access:?}");
+        assert_eq!(bus_time(&[access], 65534), Ok((1, worst + 65534)), "{access:?}");
+        assert_eq!(bus_time(&[access], 65535), Err(15), "{access:?}");
+    }
+    for access in [MISS, UNKNOWN].into_iter().flat_map(|flag| one_access(flag, 65535)) {
+        assert_eq!(bus_time(&[access], 0).map(|t| t.0), Ok(1), "{access:?}");
+        assert_eq!(bus_time(&[access], 1), Err(15), "{access:?}");
+    }
+    for hit in one_access(HIT, 65535) {
+        assert_eq!(bus_time(&[hit], 65535), Ok((0, sic::finish(&encode(&[hit])).unwrap())), "{hit:?}");
+    }
+}
+
+/// The worst times are those of document 01's cases; the last instruction of all is the one that 15 is about.
+#[test]
+fn bus_times_of_traces() {
+    let store = memory(STORE, MISS, 10);
+    let l = [memory(LOAD, UNKNOWN, 10), Instruction { fetch: UNKNOWN, ..plain() }];
+    assert_eq!(bus_time(&[memory(LOAD, MISS, 10), plain()], 100), Ok((1, 17 + 100)));
+    assert_eq!(bus_time(&[store, store], 100), Ok((2, 26 + 200)));
+    assert_eq!(bus_time(&[store, memory(STORE, HIT, 65535)], 100), Ok((1, 16 + 100)));
+    assert_eq!(bus_time(&l, 100), Ok((2, 21 + 200)));
+    let late = Instruction { fetch: UNKNOWN, fetch_latency: 65000, ..plain() };
+    let mut long = vec![plain(); 4095];
+    long.push(late);
+    assert_eq!(bus_time(&long, 535), Ok((1, 4096 + 5 + 65000 + 535)));
+    assert_eq!(bus_time(&long, 536), Err(15));
+    let most = vec![Instruction { fetch: UNKNOWN, ..memory(LOAD, MISS, 1) }; 4096];
+    assert_eq!(bus_time(&most, 65534).map(|t| t.0), Ok(8192));
+}
+
+#[test]
+fn bus_times_refuse_10_then_8_then_15() {
+    let long = Instruction { fetch: MISS, fetch_latency: 65535, ..plain() };
+    let mut body = encode(&[long, plain()]);
+    assert_eq!(number(sic::bus_time(&body, 1)), 15);
+    body[10] = 4;
+    assert_eq!(number(sic::bus_time(&body, 1)), 8);
+    body.pop();
+    assert_eq!(number(sic::bus_time(&body, 1)), 10);
+    let refused = unsafe { sic::raw::sic_bus_time(encode(&[long]).as_ptr(), 10, 1) };
+    assert_eq!((refused.refusal, refused.accesses, refused.time), (15, 0, 0));
+}
+
 #[test]
 fn refusals_of_bodies() {
     let good = encode(&[plain(), memory(LOAD, MISS, 3)]);
@@ -67,6 +129,7 @@ fn refusals_of_bodies() {
         assert_eq!(number(sic::View::new(body)), checked);
         assert_eq!(number(sic::best_worst(body)), checked);
         assert_eq!(number(sic::margin(body, 7)), checked);
+        assert_eq!(number(sic::bus_time(body, 7)), checked);
         assert_eq!(number(sic::finish(body)), settled);
         assert_eq!(number(sic::run(body, 7)), settled);
         assert_eq!(number(sic::step(body, state)), settled);
@@ -157,8 +220,8 @@ fn writing_at_its_borders() {
 #[test]
 fn refusals_speak() {
     assert_eq!(Refusal::of(0), None);
-    assert_eq!(Refusal::of(15), None);
-    for n in 1..=14 {
+    assert_eq!(Refusal::of(16), None);
+    for n in 1..=15 {
         let refusal = Refusal::of(n).unwrap();
         assert_eq!(refusal.number(), n);
         assert!(refusal.to_string().starts_with(&format!("refused {n}: ")));

@@ -33,6 +33,27 @@ impl Dice {
         (0..self.below(15)).map(|_| self.instruction(flags)).collect()
     }
 
+    /// Any wait, but often one of those where 15 begins for latencies of a few cycles, and often a short one.
+    fn wait(&mut self) -> u16 {
+        match self.below(3) {
+            0 => self.below(65536) as u16,
+            1 => 65535 - self.below(8) as u16,
+            _ => self.below(8) as u16,
+        }
+    }
+
+    /// Some latencies of hits made as long as any: they cost no cycle and are not counted.
+    fn lengthen_hits(&mut self, trace: &mut [Instruction]) {
+        for i in trace {
+            if i.fetch == HIT && self.below(2) == 0 {
+                i.fetch_latency = 65535 - self.below(8) as u16;
+            }
+            if i.access == HIT && i.data_latency > 0 && self.below(2) == 0 {
+                i.data_latency = 65535 - self.below(8) as u16;
+            }
+        }
+    }
+
     fn damage(&mut self, bytes: &mut Vec<u8>) {
         match self.below(4) {
             0 => bytes.truncate(self.below(bytes.len() as u64 + 1) as usize),
@@ -63,6 +84,7 @@ fn rows_agree(trace: &[Instruction]) {
     let rows = rows(trace);
     let finish = rows.len() as u32 - 1;
     assert_eq!(sic::finish(&body), Ok(finish));
+    one_access_at_a_time(trace, &rows);
     let mut state = State::start();
     for (t, row) in rows.iter().enumerate() {
         let expected = state_of(&slots_of(row));
@@ -111,9 +133,12 @@ fn steps_agree(dice: &mut Dice, trace: &[Instruction]) {
     assert_eq!(state, kept);
 }
 
+/// A trace with more unknown flags has too many settlings to run them all.
+const MOST_UNKNOWNS: u32 = 5;
+
 /// How many settlings were compared.
 fn bounds_agree(trace: &[Instruction], deadline: u32) -> u64 {
-    if unknowns(trace) > 5 {
+    if unknowns(trace) > MOST_UNKNOWNS {
         return 0;
     }
     let times: Vec<u32> = (0..1 << unknowns(trace)).map(|choice| finish(&settle(trace, choice))).collect();
@@ -122,6 +147,44 @@ fn bounds_agree(trace: &[Instruction], deadline: u32) -> u64 {
     assert_eq!(sic::best_worst(&body), Ok(sic::BestAndWorst { best, worst }));
     assert_eq!(sic::margin(&body, deadline), Ok(deadline as i64 - worst as i64));
     times.len() as u64
+}
+
+/// What the call answers to any body: where the simulator does not run the settlings, the worst time is the library's own.
+fn bus_times_agree(body: &[u8], wait: u16) {
+    let trace = decode(body);
+    let time = || match sic::best_worst(body).unwrap().worst {
+        worst if worst < 1000 && unknowns(&trace) <= MOST_UNKNOWNS => bus::time(&trace, wait),
+        worst => worst + bus::accesses(&trace) * wait as u32,
+    };
+    let expected = match bus::refusal(body, wait) {
+        0 => Ok((bus::accesses(&trace), time())),
+        number => Err(number),
+    };
+    assert_eq!(sic::bus_time(body, wait).map(|b| (b.accesses, b.time)).map_err(|r| r.number()), expected, "wait {wait}");
+}
+
+/// At most one access is under way in each row, and each miss in as many rows as its latency has cycles.
+fn one_access_at_a_time(trace: &[Instruction], rows: &[Vec<Place>]) {
+    let under_way: Vec<usize> = rows.iter().map(|row| bus::under_way(trace, row)).collect();
+    assert!(under_way.iter().all(|&n| n <= 1), "{under_way:?} under way");
+    let fetches = trace.iter().filter(|i| i.fetch == MISS).map(|i| i.fetch_latency as usize);
+    let accesses = trace.iter().filter(|i| i.access == MISS).map(|i| i.data_latency as usize);
+    assert_eq!(under_way.iter().sum::<usize>(), fetches.chain(accesses).sum());
+}
+
+/// How many settlings with their waits were run; none where there are too many of them.
+fn all_finish_in_time(trace: &[Instruction], wait: u16) -> u64 {
+    if bus::ways(trace, wait) > 256 {
+        return 0;
+    }
+    let time = sic::bus_time(&encode(trace), wait).unwrap().time;
+    let delayed = bus::delayed(trace, wait);
+    for settled in &delayed {
+        let rows = rows(settled);
+        assert!(rows.len() as u32 - 1 <= time, "{settled:?} takes {} cycles, and {time} were given", rows.len() - 1);
+        one_access_at_a_time(settled, &rows);
+    }
+    delayed.len() as u64
 }
 
 fn records_agree(dice: &mut Dice, bytes: &[u8]) {
@@ -173,6 +236,14 @@ fn files_agree(dice: &mut Dice, records: &[u8]) {
     }
 }
 
+/// The trace on a bus, and its first few instructions with every wait; how many settlings with their waits were run.
+fn buses_agree(dice: &mut Dice, mut trace: Vec<Instruction>) -> u64 {
+    dice.lengthen_hits(&mut trace);
+    bus_times_agree(&encode(&trace), dice.wait());
+    trace.truncate(1 + dice.below(4) as usize);
+    all_finish_in_time(&trace, dice.below(4) as u16)
+}
+
 /// How many traces were compared.
 fn one_round(seed: u64) -> u64 {
     let mut dice = Dice(seed.wrapping_mul(0x9e3779b97f4a7c15) | 1);
@@ -187,12 +258,14 @@ fn one_round(seed: u64) -> u64 {
     let other = dice.trace(2);
     assert_eq!(sic::alike(&encode(&trace), &encode(&other)), Ok(finish(&trace) == finish(&other)));
     files_agree(&mut dice, &encode(&unknown));
+    let waiting = buses_agree(&mut dice, unknown.clone());
     let mut body = encode(&unknown);
     dice.damage(&mut body);
+    bus_times_agree(&body, dice.wait());
     records_agree(&mut dice, &body);
     refusals_agree(&body, &encode(&trace));
     files_agree(&mut dice, &body);
-    settlings + 2
+    settlings + waiting + 2
 }
 
 /// Rounds from the seed on, on every processor, until the time is over; rounds and traces.

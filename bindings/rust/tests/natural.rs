@@ -18,6 +18,10 @@ fn answers_alike(body: &[u8]) {
     assert_eq!(number(sic::View::new(body).map(|_| ())), natural::check(body));
     assert_eq!(number(sic::finish(body)), natural::finish(body));
     assert_eq!(number(sic::best_worst(body).map(|t| (t.best, t.worst))), natural::best_worst(body));
+    assert_eq!(number(sic::margin(body, 1000)), natural::margin(body, 1000));
+    for wait in [0, 1, 60535, 65527, 65534, 65535] {
+        assert_eq!(number(sic::bus_time(body, wait).map(|t| (t.accesses, t.time))), natural::bus_time(body, wait));
+    }
     for limit in [0, 1, 7, sic::finish(body).unwrap_or(0) / 2, u32::MAX] {
         let run = number(sic::run(body, limit));
         let state = run.as_ref().map_or(sic::State::start(), |r| r.state);

@@ -18,5 +18,6 @@ pub use states::sic_start;
 pub use states::sic_step;
 pub use times::sic_alike;
 pub use times::sic_best_worst;
+pub use times::sic_bus_time;
 pub use times::sic_finish;
 pub use times::sic_margin;

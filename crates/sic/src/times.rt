@@ -1,11 +1,13 @@
-// Finish, Best and worst, Margin, Alike.
+// Finish, Best and worst, Margin, Alike, and the time on a shared bus.
 ghost use mathlib.Core.Path.{_≡_};
+ghost use Rattle.bus.specs.Answers.{busAnswer};
 ghost use Rattle.timing.specs.Answers.{
   finishAnswer,
   bestWorstAnswer,
   marginAnswer,
   alikeAnswer,
 };
+use bus::TimeOnBus;
 use timing::BestAndWorst;
 use timing::DeadlineMargin;
 use timing::Finished;
@@ -37,4 +39,11 @@ pub extern "C" fn sic_alike(first: &[u8], second: &[u8]) -> Likeness
     ensures { λ r. ⌜ r ≡ alikeAnswer (now (first .entry)) (now (second .entry)) ⌝ }
 {
     timing::alike(first, second)
+}
+
+#[no_mangle]
+pub extern "C" fn sic_bus_time(body: &[u8], wait: u16) -> TimeOnBus
+    ensures { λ r. ⌜ r ≡ busAnswer (now (body .entry)) wait ⌝ }
+{
+    bus::bus_time(body, wait)
 }

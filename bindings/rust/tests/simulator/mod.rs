@@ -1,6 +1,7 @@
 //! The cycle rules and the checks a third time, in plain Rust: each instruction has a stage and a
 //! count, every test looks at all older ones, and time goes cycle after cycle.
 #![allow(dead_code)]
+pub mod bus;
 pub mod by_value;
 pub mod dice;
 

@@ -78,6 +78,22 @@ fn bounds(trace: &str, bodies: &[&[u8]]) {
     line("Best and worst", trace, times, Some(slow));
 }
 
+/// The longest wait for which no latency of the body gives 15.
+fn longest_wait(body: &[u8]) -> u16 {
+    let latency = |b: &[u8]| sic::record_at(b, 0).map(|f| f.fetch_latency.max(f.data_latency)).unwrap();
+    u16::MAX - body.chunks_exact(sic::RECORD_SIZE).map(latency).max().unwrap_or(0) as u16
+}
+
+/// Margin, and the time on a shared bus, which also counts accesses.
+fn worst_times(trace: &str, bodies: &[&[u8]]) {
+    let margin = race_each(bodies, |b| number(sic::margin(b, 1000)), |b| natural::margin(b, 1000));
+    line("Margin", trace, margin, None);
+    let waits: Vec<(&[u8], u16)> = bodies.iter().map(|&b| (b, longest_wait(b))).collect();
+    let pair = |t: sic::TimeOnBus| (t.accesses, t.time);
+    let bus = race_each(&waits, |&(b, wait)| number(sic::bus_time(b, wait).map(pair)), |&(b, wait)| natural::bus_time(b, wait));
+    line("Bus time", trace, bus, None);
+}
+
 /// A state, and how many cycles are run from it: a short trace whole, a long one in its middle.
 fn stretch(body: &[u8]) -> (&[u8], sic::State, u32) {
     let finish = sic::finish(body).unwrap();
@@ -127,6 +143,7 @@ fn calls(trace: &str, known: &[u8], any: &[u8], instructions: usize) {
     checks(trace, &known);
     ends(trace, &known);
     bounds(trace, &any);
+    worst_times(trace, &any);
     steps(trace, &known);
 }
 

@@ -180,6 +180,39 @@ pub fn best_worst(body: &[u8]) -> Result<(u32, u32), u32> {
     }
 }
 
+pub fn margin(body: &[u8], deadline: u32) -> Result<i64, u32> {
+    match refusal(body) {
+        0 => Ok(deadline as i64 - pass(body, 1) as i64),
+        n => Err(n),
+    }
+}
+
+/// How many accesses of a checked body are marked miss or unknown, and the longest latency of these.
+fn counted(body: &[u8]) -> (u32, u32) {
+    let (mut accesses, mut longest) = (0, 0);
+    for i in body.chunks_exact(10).map(read) {
+        for (flag, latency) in [(i.fetch, i.fetch_latency), (i.access, i.data_latency)] {
+            if flag != 0 {
+                accesses += 1;
+                longest = longest.max(latency);
+            }
+        }
+    }
+    (accesses, longest)
+}
+
+pub fn bus_time(body: &[u8], wait: u16) -> Result<(u32, u32), u32> {
+    match refusal(body) {
+        0 => {}
+        n => return Err(n),
+    }
+    let (accesses, longest) = counted(body);
+    if longest + wait as u32 > 65535 {
+        return Err(15);
+    }
+    Ok((accesses, pass(body, 1) + accesses * wait as u32))
+}
+
 fn hold(slot: &mut Slot, k: usize, count: u32) {
     *slot = Slot { filled: true, index: k as u32, count };
 }
