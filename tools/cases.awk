@@ -381,7 +381,7 @@ function one_case(head, rest,   words, n, i, call, body, answer, beside) {
     call = call substr(words[1], 2)
     rest = " " rest
     i = match(rest, / = [^=]*$/)
-    if (!i || index("/check/finish/times/run/margin/open/view/step/alike/write/", "/" words[1] "/") == 0)
+    if (!i || index("/check/finish/times/run/margin/bus/open/view/step/alike/write/", "/" words[1] "/") == 0)
         fail("expected CALL ARGUMENTS: BYTES = ANSWER")
     answer = substr(rest, i + 3)
     gsub(/yes/, "1", answer)
@@ -422,7 +422,7 @@ function answered(words, n, answer,   argument) {
     if (words[1] == "open") return words[2] " " opened(words[2], answer)
     if (words[1] == "margin") return argument three(with_sign(answer), 3)
     if (words[1] == "check" && answer !~ / /) fail("expected two refusals")
-    return argument three(answer, words[1] == "times" ? 3 : 2)
+    return argument three(answer, words[1] == "times" || words[1] == "bus" ? 3 : 2)
 }
 # The slots of an answer as numbers.
 function with_slots(answer,   words, n, i, text) {

@@ -82,6 +82,10 @@ pub fn answers(call: u8, s: &[u8], argument: u32, body: &[u8], beside: &[u8]) ->
             let found = timing::margin(body, argument);
             says_margin(s, found.refusal, found.margin)
         }
+        b'b' => {
+            let found = bus::bus_time(body, (argument % 65536) as u16);
+            says(s, found.refusal, found.accesses, found.time)
+        }
         b'a' => {
             let found = timing::alike(body, beside);
             says(s, found.refusal, found.alike as u32, 0)

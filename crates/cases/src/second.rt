@@ -116,6 +116,10 @@ pub fn answers(call: u8, s: &[u8], argument: u32, body: &[u8], beside: &[u8]) ->
             let found = finished(body);
             says(s, found.refusal, found.time, 0)
         }
+        b'b' => {
+            let found = model_bus::bus_time(body, argument);
+            says(s, found.refusal, found.accesses, found.time)
+        }
         b'a' => alike(s, body, beside),
         _ => call < b'a',
     }

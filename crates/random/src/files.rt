@@ -1,9 +1,9 @@
 // Job files of a body's records, whole and damaged: a byte changed, cut, lengthened.
-use crate::dice::Dice;
-use crate::dice::part;
-use crate::dice::small;
-use crate::traces::Draft;
 use job::locate;
+use random_traces::Dice;
+use random_traces::Draft;
+use random_traces::part;
+use random_traces::small;
 use record::layout::RECORD_SIZE;
 use writer::write;
 
@@ -21,13 +21,6 @@ pub struct File {
 struct List {
     counts: [u16; 17],
     length: usize,
-}
-
-pub fn first(bytes: &[u8], n: usize) -> &[u8] {
-    if n <= bytes.len() {
-        return &bytes[..n];
-    }
-    bytes
 }
 
 fn low(n: u32) -> u16 {

@@ -1,5 +1,4 @@
 // Random traces: the engine's calls against the second model, from a fixed seed.
-mod dice;
 mod files;
 mod pairs;
 mod print;
@@ -7,19 +6,18 @@ mod refusals;
 mod rows;
 mod tally;
 mod times;
-mod traces;
 mod turns;
 
-use dice::Dice;
-use dice::SEED;
 use files::long_ones_agree;
 use libc::STDOUT_FILENO;
 use print::print;
+use random_traces::Dice;
+use random_traces::SEED;
+use random_traces::Style;
+use random_traces::trace;
 use tally::Tally;
 use tally::more;
 use tally::nothing;
-use traces::Style;
-use traces::trace;
 use turns::file_turn;
 use turns::long_turn;
 use turns::refusal_turn;

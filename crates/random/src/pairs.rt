@@ -1,12 +1,12 @@
 // A second trace that differs by hits turned into misses and longer latencies only, and the order
 // between the two: no instruction is ever further on in the second.
-use crate::dice::Dice;
-use crate::dice::rolled;
-use crate::dice::small;
 use crate::tally::more;
-use crate::traces::Draft;
 use model::Instruction;
 use model::Place;
+use random_traces::Dice;
+use random_traces::Draft;
+use random_traces::rolled;
+use random_traces::small;
 use record::layout::DATA_LATENCY;
 use record::layout::EXECUTION;
 use record::layout::FETCH_LATENCY;

@@ -1,12 +1,8 @@
 // One trace after the other, each compared with the model in every way.
-use crate::dice::Dice;
-use crate::dice::part;
-use crate::dice::rolled;
 use crate::files::File;
 use crate::files::broken;
 use crate::files::damaged;
 use crate::files::file_agrees;
-use crate::files::first;
 use crate::files::refusal_at;
 use crate::files::written;
 use crate::pairs::added;
@@ -24,17 +20,14 @@ use crate::times::likeness_agrees;
 use crate::times::margin_agrees;
 use crate::times::model_bounds;
 use crate::times::model_finish;
-use crate::traces::Draft;
+use random_traces::Dice;
+use random_traces::Draft;
+use random_traces::first;
+use random_traces::length_of;
+use random_traces::part;
+use random_traces::rolled;
 use record::layout::RECORD_SIZE;
 ghost use Prim.Native.Nat.{_<_};
-
-pub fn length_of(draft: Draft) -> usize {
-    if draft.n < 13 {
-        RECORD_SIZE * draft.n
-    } else {
-        0
-    }
-}
 
 // Every row and the finishing time of a trace without unknown flags.
 fn rows_turn(body: &[u8], tally: Tally) -> Tally {

@@ -1,8 +1,8 @@
--- `random::files::first` is safe, for all arguments.
+-- `random_traces::traces::first` is safe, for all arguments.
 use lib.Seq.{length-take-le}
 use mathlib.Core.Path.{sym}
-use Rattle.random.proofs.files.first.Statement.{statement}
-use Rattle.random.proofs.files.first.Tie as tie
+use Rattle.random_traces.proofs.traces.first.Statement.{statement}
+use Rattle.random_traces.proofs.traces.first.Tie as tie
 
 slice-aggregate-result : tie.Need-slice-aggregate-result
 slice-aggregate-result c = sym (length-take-le _ _ (c .before .if1 .taken))

@@ -2,13 +2,14 @@
 // now and then the longest.
 ghost use Prim.Native.Nat.{_<_, _≤_};
 ghost use Rattle.record.specs.Layout.{Fits};
-use crate::dice::Dice;
-use crate::dice::part;
-use crate::dice::rolled;
+use super::dice::Dice;
+use super::dice::part;
+use super::dice::rolled;
 use record::Fields;
+use record::layout::RECORD_SIZE;
 use record::put_record;
 
-pub const MOST: u32 = 12;
+const MOST: u32 = 12;
 
 // A body of n records and the dice after it.
 pub struct Draft {
@@ -42,7 +43,7 @@ fn only(test: bool, n: u32) -> u32
     0
 }
 
-pub fn drawn(d: Dice, e: Dice, style: Style) -> Fields
+fn drawn(d: Dice, e: Dice, style: Style) -> Fields
     ensures { λ r. ⌜ Fits r ⌝ }
 {
     let kind = part(d, 0, 4) % 4;
@@ -60,7 +61,7 @@ pub fn drawn(d: Dice, e: Dice, style: Style) -> Fields
     }
 }
 
-pub fn stored(bytes: [u8; 120], k: u32, f: Fields) -> [u8; 120]
+fn stored(bytes: [u8; 120], k: u32, f: Fields) -> [u8; 120]
     requires { ⌜ Fits f ⌝ }
 {
     let mut b = bytes;
@@ -98,4 +99,21 @@ pub fn trace(dice: Dice, style: Style) -> Draft {
         k += 1;
     }
     draft
+}
+
+// How many of a draft's bytes are its body.
+pub fn length_of(draft: Draft) -> usize {
+    if draft.n < 13 {
+        RECORD_SIZE * draft.n
+    } else {
+        0
+    }
+}
+
+// The first n bytes, or all of them where there are no more.
+pub fn first(bytes: &[u8], n: usize) -> &[u8] {
+    if n <= bytes.len() {
+        return &bytes[..n];
+    }
+    bytes
 }

@@ -1,8 +1,8 @@
--- `random::traces::trace` is safe and ends, for all arguments.
+-- `random_traces::traces::trace` is safe and ends, for all arguments.
 use Prim.Native.Nat.{_≤_, _-_}
 use native.Mathlib.Omega.{arith}
-use Rattle.random.proofs.traces.trace.Statement.{statement}
-use Rattle.random.proofs.traces.trace.Tie as tie
+use Rattle.random_traces.proofs.traces.trace.Statement.{statement}
+use Rattle.random_traces.proofs.traces.trace.Tie as tie
 
 abbrev Inv-loop : tie.InvT-loop
 Inv-loop style n draft₀ k₀ draft k = k ≤ n
