@@ -5,6 +5,7 @@ mod time;
 mod versions;
 
 pub use rows::Watched;
+pub use rows::is_under_way;
 pub use rows::under_way;
 pub use rows::watch;
 pub use time::BusTime;

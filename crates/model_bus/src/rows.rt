@@ -5,7 +5,7 @@ use model::Place;
 use std::num::wrapping_add_u32;
 
 // Whether x, which stands at `at`, has an access under way (document 02, F-1).
-fn is_under_way(x: Instruction, at: Place) -> bool {
+pub fn is_under_way(x: Instruction, at: Place) -> bool {
     let missed_data = x.data == model::MISS;
     let stage = at.stage;
     match stage {

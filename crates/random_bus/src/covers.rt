@@ -4,6 +4,7 @@ use crate::counts::above;
 use crate::counts::greater;
 use crate::counts::more;
 use crate::counts::one_more_if;
+use crate::rows::watch;
 use bus::bus_time;
 use random_traces::Dice;
 use random_traces::first;
@@ -62,7 +63,8 @@ pub fn no_covers() -> Covers {
 }
 
 // Of all versions of a trace: how many there are, the greatest finishing time, their rows, how many of these have an
-// access under way, the most in one, and whether engine and model agree on all finishing times.
+// access under way, the most in a row of the engine's or of the model's, and whether the two agree on all finishing times
+// and on how many rows have an access under way.
 struct Outcome {
     versions: u32,
     greatest: u32,
@@ -94,18 +96,20 @@ fn with_version(
     let body = first(out, length);
     let seen = model_bus::watch(body, stages, counts);
     let answer = finish(body);
+    let ours = watch(body, seen.rows);
     let left = model::all_left(body, stages);
+    let same = (answer.refusal == 0) & (answer.time == seen.rows) & (ours.rows == seen.busy);
     Outcome {
         versions: more(c.versions, 1),
         greatest: greater(c.greatest, answer.time),
         rows: more(c.rows, seen.rows),
         busy: more(c.busy, seen.busy),
-        most: greater(c.most, seen.most),
-        agree: c.agree & left & (answer.refusal == 0) & (answer.time == seen.rows),
+        most: greater(c.most, greater(seen.most, ours.most)),
+        agree: c.agree & left & same,
     }
 }
 
-// Every version or, from a choice on, some; each with the model's rows and the engine's finishing time.
+// Every version or, from a choice on, some; each with its rows and its finishing time, by the engine and by the model.
 fn all_versions(
     body: &[u8],
     wait: u32,

@@ -5,6 +5,7 @@ mod calls;
 mod counts;
 mod covers;
 mod print;
+mod rows;
 
 use bodies::damaged;
 use bodies::damaged_length;
