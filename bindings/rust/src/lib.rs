@@ -100,7 +100,7 @@ pub struct BestAndWorst {
     pub worst: u32,
 }
 
-/// How many memory accesses other cores may make wait, and the time by which all have left even so.
+/// How many memory accesses other cores may make wait, and the time by which all instructions have left even so.
 #[derive(Clone, Copy, Debug, PartialEq, Eq)]
 pub struct TimeOnBus {
     pub accesses: u32,
@@ -202,7 +202,7 @@ pub fn alike(first: &[u8], second: &[u8]) -> Result<bool, Refusal> {
 
 /// The worst time on a bus where other cores make each memory access wait for at most `wait` cycles: `wait` is added once for
 /// each fetch, and each data access of a load or store, that is marked miss or unknown. No settling of the flags finishes
-/// later, whichever waits from 0 to `wait` are added to its misses. Refuses 10, 8, 15, which a latency that hits never gives.
+/// later, whichever waits from 0 to `wait` are added to its misses. Refuses 10, 8, 15, which the latency of an access that hits never gives.
 ///
 /// ```
 /// use sic::{TimeOnBus, Refusal};

@@ -86,7 +86,7 @@ fn bus_times_at_their_borders() {
     }
 }
 
-/// The worst times are those of document 01's cases; the last instruction of all is the one that 15 is about.
+/// The worst times are those of document 01's cases. In `long` the last instruction is the one that 15 is about.
 #[test]
 fn bus_times_of_traces() {
     let store = memory(STORE, MISS, 10);

@@ -15,7 +15,7 @@ use Rattle.machine.specs.Time.{Settled, hit-stays, miss-stays, unknown-hits, un
 use Rattle.machine.specs.Bus.{countsFetch, countsData, busTime}
 use Rattle.machine.proofs.Connectives.{or-failed-l, or-failed-r, none-at}
 use Rattle.machine.proofs.Settled.{settling-length, settling-at}
-use Rattle.machine.proofs.Delays.{delayed-no-later}
+use Rattle.machine.proofs.Delays.{delayed-length, delayed-at, delayed-no-later}
 use Rattle.machine.proofs.UnderWay.{one-under-way}
 use Rattle.record.specs.Rules.{kindOf, instructionOf}
 use Rattle.record.specs.Body.{records, fieldsAt, traceOf, bodyRefusal}
@@ -24,7 +24,7 @@ use Rattle.record.proofs.Refusals.{then-first, then-second, unless-passed}
 use Rattle.record.proofs.Instructions.{length-traceOf, instruction-traceOf}
 use Rattle.encoding.specs.Encoding.{bodyOf}
 use Rattle.encoding.specs.Claims.{LatenciesFit}
-use Rattle.encoding.proofs.DelayedBody.{delayed-length, delayed-at, delayed-are-bodies}
+use Rattle.encoding.proofs.DelayedBody.{delayed-are-bodies}
 use Rattle.bus.specs.Answers.{exceeds, exceedsAt, waitRefusal, busRefusal, busAnswer}
 use Rattle.claims.specs.Claim.{Passes, rules, calls}
 use Rattle.claims.specs.Bus.{EmbodiedVersion, NoneLater, TimeHolds, AtMostOne, OneAtATime}
@@ -62,7 +62,7 @@ module _ (body : List ℕ) (wait : ℕ) (p : Passes (λ bytes. busRefusal bytes 
   none-exceeds : (k : ℕ) → k < records body → exceeds wait (instructionOf (fieldsAt body k)) ≡ false
   unfolding busRefusal waitRefusal exceedsAt
   none-exceeds k l =
-      none-at (exceedsAt body wait) (records body) (unless-passed 14 _ (then-second (bodyRefusal body) (waitRefusal body wait) (p .passes))) k l
+      none-at (exceedsAt body wait) (records body) (unless-passed _ _ (then-second (bodyRefusal body) (waitRefusal body wait) (p .passes))) k l
 
   module _ (settling trace : Trace) (h : Settling (traceOf body) settling) (d : Delayed wait settling trace) where
     fit : (k : ℕ) → k < length trace → LatenciesFit (instruction trace k)

@@ -1,6 +1,5 @@
 -- The time on a shared bus for A to L, by computation.
 use Prim.Native.Nat.{ℕ, zero, suc, _≤_, _<_}
-use mathlib.Core.List.{[], _∷_}
 use mathlib.Core.Path.{_≡_, refl, ap, _∙_}
 use native.Mathlib.Omega.{arith}
 use lib.ListN.{length}
@@ -8,9 +7,10 @@ use Rattle.machine.specs.Test.{_and_, _or_, every, none}
 use Rattle.machine.specs.Instruction.{miss, Trace, instruction}
 use Rattle.machine.specs.Rules.{next, further as furtherOn, shortOf, entry, noOlder, reads, missesData, readyIn, ready, budget, movesWithin, moves, cycle, allPre, after, allLeft}
 use Rattle.machine.specs.State.{maxInstructions}
-use Rattle.machine.specs.Time.{bound, leastFrom, finish, unknown-misses, withWaits, Delayed, delayed-none, delayed-more, settleFlag, settleInstruction, settle, worst}
+use Rattle.machine.specs.Time.{bound, leastFrom, finish, unknown-misses, withWaits, settleFlag, settleInstruction, settle, worst}
 use Rattle.machine.specs.Bus.{countsFetch, countsData, accessesOf, accesses, busTime, fetch-in-IF, load-in-MEM, store-in-ST, store-in-MEM}
-use Rattle.machine.specs.Cases.{cases, caseC, caseF, caseI}
+use Rattle.machine.specs.Cases.{cases, caseC, caseF, caseI, caseL}
+use Rattle.machine.proofs.Delays.{allAtWorst, worst-delayed}
 use Rattle.machine.proofs.Settlings.{settles}
 use Rattle.record.specs.Refusal.{_then_, _unless_}
 use Rattle.record.specs.Layout.{fieldsFrom, recordBytes}
@@ -33,31 +33,21 @@ pub long-wait-declined : LongWaitDeclined
 unfolding _and_ _or_ every none countsFetch countsData cases caseC _then_ _unless_ fieldsFrom breaksRules kindOf flagOf instructionOf breaksAt recordOf recordBytes fieldsOf bodyOf lengthRefusal recordRefusal bodyRefusal exceeds exceedsAt waitRefusal busRefusal busAnswer
 long-wait-declined = (refl, refl)
 
--- every missed access with a wait of 10
-waiting : Trace → Trace
-waiting [] = []
-waiting (i ∷ trace) = withWaits 10 10 i ∷ waiting trace
-
-all-wait : (trace : Trace) → Delayed 10 trace (waiting trace)
-unfolding waiting
-all-wait [] = delayed-none
-all-wait (i ∷ trace) =
-    delayed-more (record { onFetch = 10; onData = 10; fetchWithin = omega arith; dataWithin = omega arith; waited = refl }) (all-wait trace)
-
+-- with a wait of 10 on every missed access
 module _
     (trace : Trace)
     (few : length trace ≤ maxInstructions)
     (lawful : (k : ℕ) → k < length trace → Lawful (instruction trace k))
     (passes : busRefusal (bodyOf trace) 10 ≡ 0)
-    (finishes : finish (waiting (settle miss trace)) ≡ busAnswer (bodyOf trace) 10 .time) where
-  as-body : EmbodiedVersion (bodyOf trace) 10 (waiting (settle miss trace))
+    (finishes : finish (allAtWorst 10 (settle miss trace)) ≡ busAnswer (bodyOf trace) 10 .time) where
+  as-body : EmbodiedVersion (bodyOf trace) 10 (allAtWorst 10 (settle miss trace))
   as-body =
       time-holds .2 (bodyOf trace) 10
       (record { bytes = encoding-is-decoded trace few lawful .1; passes = passes })
       (settle miss trace)
-      (waiting (settle miss trace))
+      (allAtWorst 10 (settle miss trace))
       (rw (trace-again trace) (settles miss unknown-misses trace))
-      (all-wait (settle miss trace))
+      (worst-delayed 10 (settle miss trace))
 
   attained : WaitsAttain trace 10
   attained =
@@ -83,12 +73,19 @@ unfolding fieldsFrom breaksRules breaksAt recordOf recordBytes fieldsOf caseI
 lawful-I zero l = record { executionLatency = omega arith; fetchLatency = omega arith; dataLatency = omega arith; rules = refl }
 lawful-I (suc k) l = absurd (omega arith)
 
+lawful-L : (k : ℕ) → k < length caseL → Lawful (instruction caseL k)
+unfolding fieldsFrom breaksRules breaksAt recordOf recordBytes fieldsOf caseL
+lawful-L zero l = record { executionLatency = omega arith; fetchLatency = omega arith; dataLatency = omega arith; rules = refl }
+lawful-L (suc zero) l = record { executionLatency = omega arith; fetchLatency = omega arith; dataLatency = omega arith; rules = refl }
+lawful-L (suc (suc k)) l = absurd (omega arith)
+
 pub time-attained : TimeAttained
-unfolding _and_ _or_ every none next furtherOn shortOf entry noOlder reads missesData readyIn ready budget movesWithin moves cycle allPre after allLeft bound leastFrom finish withWaits settleFlag settleInstruction settle worst countsFetch countsData accessesOf accesses busTime caseC caseF caseI _then_ _unless_ fieldsFrom breaksRules kindOf flagOf instructionOf breaksAt firsts traceOf recordOf recordBytes fieldsOf bodyOf lengthRefusal recordRefusal bodyRefusal exceeds exceedsAt waitRefusal busRefusal busAnswer waiting
+unfolding _and_ _or_ every none next furtherOn shortOf entry noOlder reads missesData readyIn ready budget movesWithin moves cycle allPre after allLeft bound leastFrom finish withWaits settleFlag settleInstruction settle worst countsFetch countsData accessesOf accesses busTime caseC caseF caseI caseL _then_ _unless_ fieldsFrom breaksRules kindOf flagOf instructionOf breaksAt firsts traceOf recordOf recordBytes fieldsOf bodyOf lengthRefusal recordRefusal bodyRefusal exceeds exceedsAt waitRefusal busRefusal busAnswer allAtWorst
 time-attained = (
   attained caseC (omega arith) lawful-C refl refl,
   attained caseF (omega arith) lawful-F refl refl,
   attained caseI (omega arith) lawful-I refl refl,
+  attained caseL (omega arith) lawful-L refl refl,
 )
 
 pub each-under-way : EachUnderWay

@@ -6,7 +6,7 @@ use mathlib.Core.Path.{_≡_}
 use Rattle.machine.specs.Instruction.{Trace, instruction}
 use Rattle.machine.specs.Rules.{after}
 use Rattle.machine.specs.Bus.{fetch-access, data-access, UnderWay}
-use Rattle.machine.specs.Cases.{cases, caseC, caseF, caseI}
+use Rattle.machine.specs.Cases.{cases, caseC, caseF, caseI, caseL}
 use Rattle.encoding.specs.Encoding.{bodyOf}
 use Rattle.timing.specs.Answers.{finishAnswer}
 use Rattle.bus.specs.Answers.{busAnswer}
@@ -47,14 +47,15 @@ pub record WaitsAttain (trace : Trace) (longest : ℕ) : Type 0 where
   pub isVersion : VersionOf (bodyOf trace) longest version
   pub attains : finishAnswer version .time ≡ busAnswer (bodyOf trace) longest .time
 
--- a load alone, a fetch behind a load, a store alone
+-- a load alone, a fetch behind a load, a store alone; two accesses that are unknown
 abbrev pub TimeAttained : Type 0
-TimeAttained = WaitsAttain caseC 10 × WaitsAttain caseF 10 × WaitsAttain caseI 10
+TimeAttained = WaitsAttain caseC 10 × WaitsAttain caseF 10 × WaitsAttain caseI 10 × WaitsAttain caseL 10
 
--- "a missed fetch in IF or a missed load in MEM or store in ST with count above 0, or a missed store in MEM": each is met
+-- "a missed fetch in IF or a missed load in MEM or store in ST with count above 0, or a missed store in MEM": each is met, the first three with the
+-- least count that is above 0
 abbrev pub EachUnderWay : Type 0
 EachUnderWay =
-    UnderWay (instruction caseF 1) (after caseF 5 1) fetch-access
-    × UnderWay (instruction caseC 0) (after caseC 4 0) data-access
-    × UnderWay (instruction caseI 0) (after caseI 5 0) data-access
+    UnderWay (instruction caseF 1) (after caseF 14 1) fetch-access
+    × UnderWay (instruction caseC 0) (after caseC 13 0) data-access
+    × UnderWay (instruction caseI 0) (after caseI 13 0) data-access
     × UnderWay (instruction caseI 0) (after caseI 4 0) data-access

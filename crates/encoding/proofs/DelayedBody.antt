@@ -1,35 +1,26 @@
 -- A settling that is delayed is the trace of a body that 10, 8 and 11 do not decline, as long as its latencies fit their bytes: of the rules of a
 -- record only those of the latencies could break, and one that is above 0 is so with a wait, too; where there is no data access, there is no wait.
-use Prim.Native.Nat.{ℕ, zero, suc, _+_, _*_, _<_}
+use Prim.Native.Nat.{ℕ, _+_, _*_, _<_}
 use mathlib.Core.Bool.{false, cond}
-use mathlib.Core.Path.{_≡_, refl, sym, ap, subst, _∙_}
+use mathlib.Core.Path.{_≡_, sym, ap, subst, _∙_}
 use native.Mathlib.Omega.{arith}
 use lib.ListN.{length}
-use Rattle.machine.specs.Instruction.{Instruction, Trace, instruction}
+use Rattle.machine.specs.Instruction.{Instruction, instruction}
 use Rattle.machine.specs.Rules.{misses, missesData}
-use Rattle.machine.specs.Time.{withWaits, DelayedInstruction, Delayed, delayed-none, delayed-more, Known}
+use Rattle.machine.specs.Time.{withWaits, Known}
+use Rattle.machine.proofs.Delays.{delayed-length, delayed-at}
 use Rattle.record.specs.declared.layout.Fields.{Fields}
-use Rattle.record.specs.Layout.{fieldsFrom, recordBytes}
+use Rattle.record.specs.Layout.{recordBytes}
 use Rattle.record.specs.Rules.{breaksRules, flagNumber, fieldsOf}
 use Rattle.record.specs.Body.{breaksAt}
 use Rattle.record.proofs.Within.{rules}
-use Rattle.little_endian.proofs.Halves.{half-of-bytes}
 use Rattle.encoding.specs.Encoding.{recordOf}
 use Rattle.encoding.specs.Claims.{Lawful, LatenciesFit, DelayedAreBodies}
-use Rattle.encoding.proofs.Numbers.{fetch-of-flags, access-of-flags, above-0, data-latency-kept}
+use Rattle.encoding.proofs.Numbers.{above-0, data-latency-kept}
+use Rattle.encoding.proofs.Record.{fields-of}
 use Rattle.encoding.proofs.SettledBody.{trace-is-body, settling-few, settling-lawful, settling-known}
 
--- the fields that are read of an instruction's record, its flags byte, and its rules
-fields-of : (i : Instruction) → fieldsFrom (recordOf i) 0 ≡ fieldsOf i
-unfolding fieldsFrom recordOf recordBytes fieldsOf
-fields-of i =
-    rw (
-      fetch-of-flags (i .fetch) (i .access),
-      access-of-flags (i .fetch) (i .access),
-      half-of-bytes (i .fetchLatency),
-      half-of-bytes (i .dataLatency),
-    )
-
+-- the flags byte of an instruction's record, and its rules
 abbrev flags : Instruction → ℕ
 flags i = flagNumber (i .fetch) + 4 * flagNumber (i .access)
 
@@ -65,15 +56,6 @@ module _ (onFetch onData : ℕ) (i : Instruction) where
   delayed-known : Known i → Known (withWaits onFetch onData i)
   unfolding withWaits
   delayed-known k = record { fetch = k .fetch; access = k .access }
-
-pub delayed-length : {wait : ℕ} {trace version : Trace} → Delayed wait trace version → length version ≡ length trace
-delayed-length delayed-none = refl
-delayed-length (delayed-more d rest) = ap suc (delayed-length rest)
-
-pub delayed-at : {wait : ℕ} {trace version : Trace} → Delayed wait trace version → (k : ℕ) → k < length trace → DelayedInstruction wait (instruction trace k) (instruction version k)
-delayed-at delayed-none k l = absurd (omega arith)
-delayed-at (delayed-more d rest) zero l = d
-delayed-at (delayed-more d rest) (suc k) l = delayed-at rest k (omega arith)
 
 pub delayed-are-bodies : DelayedAreBodies
 delayed-are-bodies body b accepted settling version longest h d fit =

@@ -3,6 +3,7 @@ pub mod DelayedBody
 pub mod Encoding
 pub mod Fits
 pub mod Numbers
+pub mod Record
 pub mod RoundTrip
 pub mod SettledBody
 pub mod SettledRecord

@@ -19,8 +19,9 @@ use Rattle.record.proofs.Accepted.{accepted-of, whole-records, flags-byte, fiel
 use Rattle.record.proofs.Instructions.{getD-firsts, length-traceOf, instruction-traceOf}
 use Rattle.encoding.proofs.Encoding.{length-bodyOf, records-bodyOf, byte-bodyOf}
 use Rattle.encoding.proofs.Fits.{encoding-is-bytes}
-use Rattle.encoding.proofs.Numbers.{kindOf-number, flagOf-number, fetch-of-flags, access-of-flags, number-kindOf, number-flagOf, flags-of-parts}
-use Rattle.little_endian.proofs.Halves.{half-of-bytes, low-of-half, high-of-half}
+use Rattle.encoding.proofs.Numbers.{kindOf-number, flagOf-number, number-kindOf, number-flagOf, flags-of-parts}
+use Rattle.encoding.proofs.Record.{fields-of}
+use Rattle.little_endian.proofs.Halves.{low-of-half, high-of-half}
 use Rattle.record.proofs.Within.{Within}
 
 -- the record of the instruction that a record stands for is that record
@@ -72,17 +73,8 @@ accepted-is-encoded body b accepted =
 
 -- the instruction that the record of an instruction stands for is that instruction
 decoded : (i : Instruction) → instructionOf (fieldsFrom (recordOf i) 0) ≡ i
-unfolding fieldsFrom recordOf recordBytes fieldsOf instructionOf
-decoded i =
-    rw (
-      fetch-of-flags (i .fetch) (i .access),
-      access-of-flags (i .fetch) (i .access),
-      kindOf-number (i .kind),
-      flagOf-number (i .fetch),
-      flagOf-number (i .access),
-      half-of-bytes (i .fetchLatency),
-      half-of-bytes (i .dataLatency),
-    )
+unfolding fieldsOf instructionOf
+decoded i = ap instructionOf (fields-of i) ∙ rw (kindOf-number (i .kind), flagOf-number (i .fetch), flagOf-number (i .access))
 
 module _ (trace : Trace) (k : ℕ) (l : k < length trace) where
   record-byte : (j : ℕ) → j < recordSize → byte (bodyOf trace) (k * recordSize + j) ≡ byte (recordOf (instruction trace k)) (0 + j)

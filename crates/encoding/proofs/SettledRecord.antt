@@ -15,8 +15,8 @@ use Rattle.record.specs.Rules.{noAccess, breaksRules, hasUnknown, flagOf, flagN
 use Rattle.record.specs.Body.{breaksAt}
 use Rattle.encoding.specs.Encoding.{recordOf}
 use Rattle.encoding.specs.Claims.{Lawful}
-use Rattle.encoding.proofs.Numbers.{number-kindOf, fetch-of-flags, access-of-flags}
-use Rattle.little_endian.proofs.Halves.{half-of-bytes}
+use Rattle.encoding.proofs.Numbers.{number-kindOf}
+use Rattle.encoding.proofs.Record.{fields-of}
 use Rattle.record.proofs.Within.{Within, rules}
 
 -- the number of a flag that is not unknown
@@ -64,13 +64,10 @@ module _ (f : Fields) (s : Instruction) (h : SettledInstruction (instructionOf f
       }
 
   fields-settled : Within f → fieldsFrom (recordOf s) 0 ≡ fields
-  unfolding fieldsFrom recordOf recordBytes fieldsOf instructionOf fields fetch access
+  unfolding fieldsOf instructionOf fields fetch access
   fields-settled w =
-      rw (
-        fetch-of-flags (s .fetch) (s .access),
-        access-of-flags (s .fetch) (s .access),
-        half-of-bytes (s .fetchLatency),
-        half-of-bytes (s .dataLatency),
+      fields-of s
+      ∙ rw (
         h .kind,
         number-kindOf _ (w .kind),
         h .source1,
@@ -110,13 +107,8 @@ module _ (f : Fields) (s : Instruction) (h : SettledInstruction (instructionOf f
 
 -- the record of an instruction without an unknown flag
 pub known-record : (i : Instruction) → Known i → hasUnknown (fieldsFrom (recordOf i) 0) ≡ false
-unfolding hasUnknown fieldsFrom recordOf recordBytes fieldsOf
+unfolding hasUnknown fieldsOf
 known-record i k =
     let fetch = number-known (i .fetch) (k .fetch) in
     let access = number-known (i .access) (k .access) in
-    rw (
-      fetch-of-flags (i .fetch) (i .access),
-      access-of-flags (i .fetch) (i .access),
-      ne-eqb (flagNumber (i .fetch)) 2 (omega arith),
-      ne-eqb (flagNumber (i .access)) 2 (omega arith),
-    )
+    ap hasUnknown (fields-of i) ∙ rw (ne-eqb (flagNumber (i .fetch)) 2 (omega arith), ne-eqb (flagNumber (i .access)) 2 (omega arith))

@@ -1,15 +1,17 @@
--- The time on a shared bus holds: a settling with waits is at most as slow as the trace with all misses and the longest wait on each of them, and
--- that finishes later than the worst time by at most what was added, the longest wait for each access that is counted.
-use Prim.Native.Nat.{ℕ, _-_, _*_, _≤_}
+-- What a delay makes of a trace, instruction by instruction. And the time on a shared bus holds: a settling with waits is at most as slow as the trace
+-- with all misses and the longest wait on each of them, and that finishes later than the worst time by at most what was added, the longest wait for
+-- each access that is counted.
+use Prim.Native.Nat.{ℕ, zero, suc, _*_, _≤_, _<_}
 use mathlib.Core.Bool.{Bool, true, false, not, cond}
 use mathlib.Core.List.{[], _∷_}
-use mathlib.Core.Path.{_≡_, refl, sym, subst}
+use mathlib.Core.Path.{_≡_, refl, sym, ap, subst}
 use native.Mathlib.Nat.{le-of-eq, add-mul}
 use native.Mathlib.Omega.{arith}
+use lib.ListN.{length}
 use Rattle.machine.specs.Test.{_and_, _or_}
-use Rattle.machine.specs.Instruction.{Flag, hit, miss, unknown, Instruction, Trace}
+use Rattle.machine.specs.Instruction.{Flag, hit, miss, unknown, Instruction, Trace, instruction}
 use Rattle.machine.specs.Rules.{isLoad, isStore, hits, misses, missesData}
-use Rattle.machine.specs.Time.{Settled, hit-stays, miss-stays, unknown-hits, unknown-misses, SettledInstruction, Settling, settled-none, settled-more, withWaits, Delayed, delayed-none, delayed-more, settleFlag, settleInstruction, settle, worst}
+use Rattle.machine.specs.Time.{Settled, hit-stays, miss-stays, unknown-hits, unknown-misses, SettledInstruction, Settling, settled-none, settled-more, withWaits, DelayedInstruction, Delayed, delayed-none, delayed-more, settleFlag, settleInstruction, settle, worst}
 use Rattle.machine.specs.Order.{FlagTo, hit-hit, miss-miss, SlowerInstruction, Slower, slower-none, slower-more, SameFlags, same-none, same-more, added}
 use Rattle.machine.specs.Bus.{countsFetch, countsData, accessesOf, accesses, busTime}
 use Rattle.machine.specs.Claims.{DelayedNoLater}
@@ -17,11 +19,26 @@ use Rattle.machine.proofs.Slower.{ordered}
 use Rattle.machine.proofs.Longer.{added-at-most}
 use Rattle.machine.proofs.Settlings.{flag-below-misses}
 
+pub delayed-length : {wait : ℕ} {trace version : Trace} → Delayed wait trace version → length version ≡ length trace
+delayed-length delayed-none = refl
+delayed-length (delayed-more d rest) = ap suc (delayed-length rest)
+
+pub delayed-at : {wait : ℕ} {trace version : Trace} → Delayed wait trace version → (k : ℕ) → k < length trace → DelayedInstruction wait (instruction trace k) (instruction version k)
+delayed-at delayed-none k l = absurd (omega arith)
+delayed-at (delayed-more d rest) zero l = d
+delayed-at (delayed-more d rest) (suc k) l = delayed-at rest k (omega arith)
+
 module _ (wait : ℕ) where
   -- every missed access longer by the whole wait
-  allAtWorst : Trace → Trace
+  unfoldable pub allAtWorst : Trace → Trace
   allAtWorst [] = []
   allAtWorst (i ∷ trace) = withWaits wait wait i ∷ allAtWorst trace
+
+  pub worst-delayed : (trace : Trace) → Delayed wait trace (allAtWorst trace)
+  unfolding allAtWorst
+  worst-delayed [] = delayed-none
+  worst-delayed (i ∷ trace) =
+      delayed-more (record { onFetch = wait; onData = wait; fetchWithin = omega arith; dataWithin = omega arith; waited = refl }) (worst-delayed trace)
 
   -- an access that is missed in a settling is missed if all unknown flags are misses
   wait-within : (x : Bool) {f g : Flag} {w : ℕ} → Settled f g → w ≤ wait → cond (x and misses g) w 0 ≤ cond (x and misses (settleFlag miss f)) wait 0

@@ -98,8 +98,12 @@ unfoldable pub caseI : Trace
 unfolding simple
 caseI = simple store miss 10 ∷ []
 
+unfoldable pub caseL : Trace
+unfolding simple plainOne fetched
+caseL = simple load unknown 10 ∷ fetched unknown 1 plainOne ∷ []
+
 unfoldable pub cases : List Case
-unfolding simple plainOne fetched settledCase caseC caseD caseF caseI
+unfolding simple plainOne fetched settledCase caseC caseD caseF caseI caseL
 cases =
     settledCase [] 0
     ∷ settledCase (plainOne ∷ []) 6
@@ -112,7 +116,7 @@ cases =
     ∷ settledCase caseI 15
     ∷ settledCase (simple store miss 10 ∷ simple store miss 10 ∷ []) 26
     ∷ settledCase (simple store miss 10 ∷ simple store hit 1 ∷ []) 16
-    ∷ record { trace = simple load unknown 10 ∷ fetched unknown 1 plainOne ∷ []; best = 7; worst = 21 }
+    ∷ record { trace = caseL; best = 7; worst = 21 }
     ∷ []
 
 -- What A to L do not show: a dependence through the second source, and none through register 0; behind an older store a fetch that misses, a fetch

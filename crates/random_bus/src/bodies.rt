@@ -40,8 +40,8 @@ pub fn wait_of(d: Dice) -> u32
     }
 }
 
-// 0, 1 or 2 at random. A long latency that is accepted has to be run by the second model, so that beside those that
-// are refused, 2, such a one is to be rare.
+// 0, 1 or 2 at random; only 2, which gives 15, where the latency is long, but for a few: the second model runs a long latency
+// cycle after cycle if it is accepted.
 fn beyond(room: u32, d: Dice, rare: bool) -> u32
     ensures { λ r. ⌜ r ≤ 2 ⌝ }
 {

@@ -20,7 +20,7 @@ use Rattle.machine.proofs.WindowBounds.{TimesWithin}
 use Rattle.record.specs.declared.layout.Fields.{Fields}
 use Rattle.record.specs.declared.layout.Read.{Read}
 use Rattle.record.specs.Rules.{kindOf, flagOf, instructionOf}
-use Rattle.record.specs.Body.{Bytes, records, fieldsAt, traceOf, bodyRefusal, readAnswer}
+use Rattle.record.specs.Body.{Bytes, records, fieldsAt, firsts, traceOf, bodyRefusal, readAnswer}
 use Rattle.record.proofs.Accepted.{few-records, fields-within}
 use Rattle.record.proofs.Instructions.{length-traceOf, instruction-traceOf}
 use Rattle.record.proofs.Within.{OneOf, Within}
@@ -75,6 +75,10 @@ finish-within body b accepted to = omega (arith, finish-bounded (settle to (trac
 module _ (body : List ℕ) where
   pub length-settled : (to : Flag) → length (settle to (traceOf body)) ≡ records body
   length-settled to = length-settle to (traceOf body) ∙ length-traceOf body
+
+  -- the first k instructions, which a pass has read when it comes to instruction k
+  unfoldable pub read-first : ℕ → Trace
+  read-first k = firsts (λ j. instructionOf (fieldsAt body j)) k
 
   pub read-fields : (k : ℕ) → k < records body → {read : Read} → read ≡ readAnswer body k → read .fields ≡ fieldsAt body k
   unfolding readAnswer

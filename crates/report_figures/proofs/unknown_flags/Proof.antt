@@ -1,23 +1,17 @@
 -- `unknown_flags` meets its contract: at the loop's head the flags of the first k instructions are counted.
 use Prim.Native.Nat.{ℕ, _+_, _*_, _-_, _<_, _≤_}
-use mathlib.Core.List.{List}
 use mathlib.Core.Path.{_≡_, refl, sym, ap, ap₂, subst, _∙_}
 use native.Mathlib.Omega.{arith}
 use native.Mathlib.Numerals.{add-one}
-use Rattle.machine.specs.Instruction.{Trace}
 use Rattle.record.specs.declared.layout.Fields.{Fields}
 use Rattle.record.specs.Rules.{flagOf, instructionOf}
 use Rattle.record.specs.Body.{records, fieldsAt, firsts, traceOf}
 use Rattle.record.proofs.Accepted.{few-records}
-use Rattle.schedule.proofs.Accepted.{read-fields}
+use Rattle.schedule.proofs.Accepted.{read-first, read-fields}
 use Rattle.report_figures.specs.Figures.{isUnknown, unknownFlags}
 use Rattle.report_figures.proofs.Flags.{unknown-more}
 use Rattle.report_figures.proofs.unknown_flags.Statement.{statement}
 use Rattle.report_figures.proofs.unknown_flags.Tie as tie
-
--- the first k instructions of a body
-read-first : List ℕ → ℕ → Trace
-read-first body k = firsts (λ j. instructionOf (fieldsAt body j)) k
 
 abbrev Inv-loop : tie.InvT-loop
 Inv-loop body records unknown₀ k₀ unknown k = (k ≤ records) × (unknown ≡ unknownFlags (read-first body k)) × (unknown ≤ 2 * k)

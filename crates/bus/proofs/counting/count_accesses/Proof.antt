@@ -2,27 +2,21 @@
 -- them is too long with the wait.
 use Prim.Native.Nat.{ℕ, _+_, _*_, _-_, _<_, _≤_}
 use mathlib.Core.Bool.{not}
-use mathlib.Core.List.{List}
 use mathlib.Core.Path.{_≡_, refl, sym, ap, ap₂, subst, _∙_}
 use native.Mathlib.Omega.{arith}
 use native.Mathlib.Numerals.{add-one}
 use Rattle.machine.specs.Test.{none}
-use Rattle.machine.specs.Instruction.{Trace}
 use Rattle.machine.specs.Bus.{accessesOf, accesses}
 use Rattle.record.specs.declared.layout.Fields.{Fields}
 use Rattle.record.specs.Rules.{instructionOf}
 use Rattle.record.specs.Body.{records, fieldsAt, firsts, traceOf}
 use Rattle.record.proofs.Accepted.{few-records}
 use Rattle.record.proofs.Scan.{none-zero, none-joined}
-use Rattle.schedule.proofs.Accepted.{read-fields}
+use Rattle.schedule.proofs.Accepted.{read-first, read-fields}
 use Rattle.bus.specs.Answers.{exceeds, exceedsAt}
 use Rattle.bus.proofs.Added.{accesses-more}
 use Rattle.bus.proofs.counting.count_accesses.Statement.{statement}
 use Rattle.bus.proofs.counting.count_accesses.Tie as tie
-
--- the first k instructions of a body
-read-first : List ℕ → ℕ → Trace
-read-first body k = firsts (λ j. instructionOf (fieldsAt body j)) k
 
 abbrev Inv-loop : tie.InvT-loop
 Inv-loop body wait records accesses₀ too-long₀ k₀ accessed too-long k =
