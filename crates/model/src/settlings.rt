@@ -1,5 +1,6 @@
 // The settlings of a trace, and the least and the greatest finishing time over all of them.
 use super::runs::finish_in;
+use super::trace::FLAGS;
 use super::trace::HIT;
 use super::trace::Instruction;
 use super::trace::MISS;
@@ -63,7 +64,7 @@ fn after(flag: u8, bits: u32) -> u32 {
 
 // Whether byte `at` of a body is a record's flags.
 fn is_flags(at: usize) -> bool {
-    at % RECORD == 1
+    at % RECORD == FLAGS
 }
 
 // A byte of a body, settled by the bits that are left where it is a record's flags.
@@ -83,7 +84,8 @@ fn left_after(b: u8, at: usize, bits: u32) -> u32 {
     after(data_flag(b), after(fetch_flag(b), bits))
 }
 
-fn put_byte(out: &mut [u8], at: usize, b: u8) {
+// Nothing is put past the end.
+pub fn put_byte(out: &mut [u8], at: usize, b: u8) {
     if at < out.len() {
         out[at] = b;
     }

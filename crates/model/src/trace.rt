@@ -4,8 +4,14 @@ ghost use Prim.Native.Nat.{_≤_, _<_};
 // Instructions of a trace.
 pub const MOST: usize = 4096;
 
-// Bytes of a record.
+// Bytes of a record, and where the fields start that a settling or a wait alters.
 pub const RECORD: usize = 10;
+
+pub const FLAGS: usize = 1;
+
+pub const FETCH_LATENCY: usize = 6;
+
+pub const DATA_LATENCY: usize = 8;
 
 pub const PLAIN: u8 = 0;
 
@@ -82,7 +88,7 @@ pub fn data_flag(flags: u8) -> u8
 fn record(body: &[u8], at: usize) -> Instruction
     requires { ⌜ at < 65536 ⌝ }
 {
-    let flags = byte(body, at + 1);
+    let flags = byte(body, at + FLAGS);
     Instruction {
         kind: byte(body, at),
         fetch: fetch_flag(flags),
@@ -91,8 +97,8 @@ fn record(body: &[u8], at: usize) -> Instruction
         second: byte(body, at + 3),
         target: byte(body, at + 4),
         execution: wide(byte(body, at + 5)),
-        fetch_latency: pair(body, at + 6),
-        data_latency: pair(body, at + 8),
+        fetch_latency: pair(body, at + FETCH_LATENCY),
+        data_latency: pair(body, at + DATA_LATENCY),
     }
 }
 

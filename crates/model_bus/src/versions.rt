@@ -1,17 +1,13 @@
 // The traces that the time on a shared bus has to cover: "every settling of the flags and every added wait from 0
 // to d on each missed access" (document 02, F-1). Each is a version of the trace, a body of its own.
+use model::DATA_LATENCY;
+use model::FETCH_LATENCY;
+use model::FLAGS;
 use model::Instruction;
+use model::RECORD;
+use model::put_byte;
 use std::num::wrapping_add_u32;
 ghost use Prim.Native.Nat.{_≤_, _<_};
-
-// Where a record has its flags and its two latencies.
-const RECORD: usize = 10;
-
-const FLAGS: usize = 1;
-
-const FETCH_LATENCY: usize = 6;
-
-const DATA_LATENCY: usize = 8;
 
 // An access of a version, and the rest of the choice that made it.
 struct Access {
@@ -57,12 +53,6 @@ fn chosen(flag: u8, latency: u32, choice: u32, wait: u32) -> Access
         },
         latency: wrapping_add_u32(latency, way),
         left,
-    }
-}
-
-fn put_byte(out: &mut [u8], at: usize, b: u8) {
-    if at < out.len() {
-        out[at] = b;
     }
 }
 

@@ -2,6 +2,10 @@
 use random_traces::Dice;
 use random_traces::part;
 use random_traces::small;
+use record::layout::DATA_LATENCY;
+use record::layout::FETCH_LATENCY;
+use record::layout::FLAGS;
+use record::layout::RECORD_SIZE;
 ghost use Prim.Native.Nat.{_≤_, _<_};
 
 // Records in the bytes of a draft.
@@ -22,7 +26,7 @@ pub fn sparse(bytes: [u8; 120], d: Dice) -> [u8; 120] {
     let mut b = bytes;
     let mut i: u32 = 0;
     while i < RECORDS {
-        let at = (10 * i + 1) as usize;
+        let at = RECORD_SIZE * i as usize + FLAGS;
         b[at] = kept(b[at], d, i);
         i += 1;
     }
@@ -69,7 +73,11 @@ fn latency_of(kind: u8, d: Dice) -> usize
     ensures { λ r. ⌜ r ≤ 8 ⌝ }
 {
     let memory = (kind == model::LOAD) | (kind == model::STORE);
-    if memory & (part(d, 11, 2) == 0) { 8 } else { 6 }
+    if memory & (part(d, 11, 2) == 0) {
+        DATA_LATENCY
+    } else {
+        FETCH_LATENCY
+    }
 }
 
 // The bytes with one latency of one of n records near the longest that the wait leaves room for.
@@ -78,7 +86,7 @@ pub fn lengthened(bytes: [u8; 120], n: usize, wait: u32, d: Dice, rare: bool) ->
 {
     let mut b = bytes;
     let latency = near(wait, d, rare);
-    let start = (part(d, 5, n as u64) % RECORDS * 10) as usize;
+    let start = RECORD_SIZE * (part(d, 5, n as u64) % RECORDS) as usize;
     let at = start + latency_of(b[start], d);
     b[at] = (latency % 256) as u8;
     b[at + 1] = (latency / 256 % 256) as u8;

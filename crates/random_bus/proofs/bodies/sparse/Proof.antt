@@ -13,14 +13,14 @@ abbrev μ-loop : tie.MeasureT-loop
 loop-holds : tie.Need-loop-holds Inv-loop μ-loop
 loop-holds c = omega arith
 
+cast-at : tie.Need-cast-at Inv-loop μ-loop
+cast-at c = omega arith
+
 mul-at : tie.Need-mul-at Inv-loop μ-loop
 mul-at c = omega arith
 
 add-at : tie.Need-add-at Inv-loop μ-loop
 add-at c = omega arith
-
-cast-at : tie.Need-cast-at Inv-loop μ-loop
-cast-at c = omega arith
 
 array-read-kept : tie.Need-array-read-kept Inv-loop μ-loop
 array-read-kept c = omega arith
@@ -50,9 +50,9 @@ sparse-spec =
     Inv-loop
     μ-loop
     loop-holds
+    cast-at
     mul-at
     add-at
-    cast-at
     array-read-kept
     kept-requires
     array-write-b
