@@ -1,12 +1,9 @@
 -- The time on a shared bus for A to L, by computation.
-use Prim.Native.Nat.{ℕ, zero, suc, _≤_, _<_}
 use mathlib.Core.Path.{_≡_, refl, ap, _∙_}
 use native.Mathlib.Omega.{arith}
-use lib.ListN.{length}
 use Rattle.machine.specs.Test.{_and_, _or_, every, none}
-use Rattle.machine.specs.Instruction.{miss, Trace, instruction}
+use Rattle.machine.specs.Instruction.{miss, Trace}
 use Rattle.machine.specs.Rules.{next, further as furtherOn, shortOf, entry, noOlder, reads, missesData, readyIn, ready, budget, movesWithin, moves, cycle, allPre, after, allLeft}
-use Rattle.machine.specs.State.{maxInstructions}
 use Rattle.machine.specs.Time.{bound, leastFrom, finish, unknown-misses, withWaits, settleFlag, settleInstruction, settle, worst}
 use Rattle.machine.specs.Bus.{countsFetch, countsData, accessesOf, accesses, busTime, fetch-in-IF, load-in-MEM, store-in-ST, store-in-MEM}
 use Rattle.machine.specs.Cases.{cases, caseC, caseF, caseI, caseL}
@@ -17,8 +14,8 @@ use Rattle.record.specs.Layout.{fieldsFrom, recordBytes}
 use Rattle.record.specs.Rules.{breaksRules, kindOf, flagOf, instructionOf, fieldsOf}
 use Rattle.record.specs.Body.{breaksAt, firsts, traceOf, lengthRefusal, recordRefusal, bodyRefusal}
 use Rattle.encoding.specs.Encoding.{recordOf, bodyOf}
-use Rattle.encoding.specs.Claims.{Lawful}
-use Rattle.encoding.proofs.RoundTrip.{trace-again, encoding-is-decoded}
+use Rattle.encoding.proofs.Fits.{Small, small-bytes}
+use Rattle.encoding.proofs.RoundTrip.{trace-again}
 use Rattle.bus.specs.Answers.{exceeds, exceedsAt, waitRefusal, busRefusal, busAnswer}
 use Rattle.claims.specs.Bus.{EmbodiedVersion}
 use Rattle.claims.specs.BusCases.{BusAnswered, LongWaitDeclined, WaitsAttain, TimeAttained, EachUnderWay}
@@ -36,14 +33,13 @@ long-wait-declined = (refl, refl)
 -- with a wait of 10 on every missed access
 module _
     (trace : Trace)
-    (few : length trace ≤ maxInstructions)
-    (lawful : (k : ℕ) → k < length trace → Lawful (instruction trace k))
+    (small : Small (bodyOf trace))
     (passes : busRefusal (bodyOf trace) 10 ≡ 0)
     (finishes : finish (allAtWorst 10 (settle miss trace)) ≡ busAnswer (bodyOf trace) 10 .time) where
   as-body : EmbodiedVersion (bodyOf trace) 10 (allAtWorst 10 (settle miss trace))
   as-body =
       time-holds .2 (bodyOf trace) 10
-      (record { bytes = encoding-is-decoded trace few lawful .1; passes = passes })
+      (record { bytes = small-bytes (bodyOf trace) small; passes = passes })
       (settle miss trace)
       (allAtWorst 10 (settle miss trace))
       (rw (trace-again trace) (settles miss unknown-misses trace))
@@ -57,35 +53,13 @@ module _
         attains = finish-answered (as-body .encoding) (as-body .isVersion .passes) ∙ ap finish (as-body .decodes) ∙ finishes;
       }
 
-lawful-C : (k : ℕ) → k < length caseC → Lawful (instruction caseC k)
-unfolding fieldsFrom breaksRules breaksAt recordOf recordBytes fieldsOf caseC
-lawful-C zero l = record { executionLatency = omega arith; fetchLatency = omega arith; dataLatency = omega arith; rules = refl }
-lawful-C (suc k) l = absurd (omega arith)
-
-lawful-F : (k : ℕ) → k < length caseF → Lawful (instruction caseF k)
-unfolding fieldsFrom breaksRules breaksAt recordOf recordBytes fieldsOf caseF
-lawful-F zero l = record { executionLatency = omega arith; fetchLatency = omega arith; dataLatency = omega arith; rules = refl }
-lawful-F (suc zero) l = record { executionLatency = omega arith; fetchLatency = omega arith; dataLatency = omega arith; rules = refl }
-lawful-F (suc (suc k)) l = absurd (omega arith)
-
-lawful-I : (k : ℕ) → k < length caseI → Lawful (instruction caseI k)
-unfolding fieldsFrom breaksRules breaksAt recordOf recordBytes fieldsOf caseI
-lawful-I zero l = record { executionLatency = omega arith; fetchLatency = omega arith; dataLatency = omega arith; rules = refl }
-lawful-I (suc k) l = absurd (omega arith)
-
-lawful-L : (k : ℕ) → k < length caseL → Lawful (instruction caseL k)
-unfolding fieldsFrom breaksRules breaksAt recordOf recordBytes fieldsOf caseL
-lawful-L zero l = record { executionLatency = omega arith; fetchLatency = omega arith; dataLatency = omega arith; rules = refl }
-lawful-L (suc zero) l = record { executionLatency = omega arith; fetchLatency = omega arith; dataLatency = omega arith; rules = refl }
-lawful-L (suc (suc k)) l = absurd (omega arith)
-
 pub time-attained : TimeAttained
 unfolding _and_ _or_ every none next furtherOn shortOf entry noOlder reads missesData readyIn ready budget movesWithin moves cycle allPre after allLeft bound leastFrom finish withWaits settleFlag settleInstruction settle worst countsFetch countsData accessesOf accesses busTime caseC caseF caseI caseL _then_ _unless_ fieldsFrom breaksRules kindOf flagOf instructionOf breaksAt firsts traceOf recordOf recordBytes fieldsOf bodyOf lengthRefusal recordRefusal bodyRefusal exceeds exceedsAt waitRefusal busRefusal busAnswer allAtWorst
 time-attained = (
-  attained caseC (omega arith) lawful-C refl refl,
-  attained caseF (omega arith) lawful-F refl refl,
-  attained caseI (omega arith) lawful-I refl refl,
-  attained caseL (omega arith) lawful-L refl refl,
+  attained caseC (omega arith) refl refl,
+  attained caseF (omega arith) refl refl,
+  attained caseI (omega arith) refl refl,
+  attained caseL (omega arith) refl refl,
 )
 
 pub each-under-way : EachUnderWay

@@ -14,7 +14,7 @@ use Rattle.encoding.proofs.Numbers.{kindNumber-le, flagNumber-le}
 use Rattle.record.proofs.Within.{registers-within}
 
 -- the same as `Bytes`, number by number
-abbrev Small : List ℕ → Type 0
+abbrev pub Small : List ℕ → Type 0
 Small [] = Unit {0}
 Small (x ∷ numbers) = (x < 256) × Small numbers
 
@@ -22,7 +22,7 @@ small-append : (a b : List ℕ) → Small a → Small b → Small (a ++ b)
 small-append [] b p q = q
 small-append (x ∷ a) b p q = (p .0, small-append a b (p .1) q)
 
-small-bytes : (numbers : List ℕ) → Small numbers → Bytes numbers
+pub small-bytes : (numbers : List ℕ) → Small numbers → Bytes numbers
 small-bytes [] s n = omega arith
 small-bytes (x ∷ numbers) s zero = s .0
 small-bytes (x ∷ numbers) s (suc n) = small-bytes numbers (s .1) n
