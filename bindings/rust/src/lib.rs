@@ -202,7 +202,8 @@ pub fn alike(first: &[u8], second: &[u8]) -> Result<bool, Refusal> {
 
 /// The worst time on a bus where other cores make each memory access wait for at most `wait` cycles: `wait` is added once for
 /// each fetch, and each data access of a load or store, that is marked miss or unknown. No settling of the flags finishes
-/// later, whichever waits from 0 to `wait` are added to its misses. Refuses 10, 8, 15, which the latency of an access that hits never gives.
+/// later, whichever waits from 0 to `wait` are added to its misses. Refuses 10, 8, 15, which the latency of an access that
+/// hits never gives.
 ///
 /// ```
 /// use sic::{TimeOnBus, Refusal};

@@ -167,9 +167,13 @@ fn bus_times_agree(body: &[u8], wait: u16) {
 fn one_access_at_a_time(trace: &[Instruction], rows: &[Vec<Place>]) {
     let under_way: Vec<usize> = rows.iter().map(|row| bus::under_way(trace, row)).collect();
     assert!(under_way.iter().all(|&n| n <= 1), "{under_way:?} under way");
-    let fetches = trace.iter().filter(|i| i.fetch == MISS).map(|i| i.fetch_latency as usize);
-    let accesses = trace.iter().filter(|i| i.access == MISS).map(|i| i.data_latency as usize);
-    assert_eq!(under_way.iter().sum::<usize>(), fetches.chain(accesses).sum());
+    for (k, i) in trace.iter().enumerate() {
+        let places = || rows.iter().map(|row| row[k]).filter(|&at| bus::under_way_at(i, at));
+        let fetching = places().filter(|at| at.stage == Stage::If).count();
+        let missed = |flag, latency| if flag == MISS { latency as usize } else { 0 };
+        assert_eq!(fetching, missed(i.fetch, i.fetch_latency), "the fetch of {k} in {trace:?}");
+        assert_eq!(places().count() - fetching, missed(i.access, i.data_latency), "the data access of {k} in {trace:?}");
+    }
 }
 
 /// How many settlings with their waits were run; none where there are too many of them.

@@ -44,8 +44,8 @@ pub fn wait_of(d: Dice) -> u32
     }
 }
 
-// 0, 1 or 2 at random; only 2, which gives 15, where the latency is long, but for a few: the second model runs a long latency
-// cycle after cycle if it is accepted.
+// 0, 1 or 2 at random. Where the latency is long it is 2, which gives 15, but for a few: the second model runs a long
+// latency that is accepted cycle after cycle.
 fn beyond(room: u32, d: Dice, rare: bool) -> u32
     ensures { λ r. ⌜ r ≤ 2 ⌝ }
 {

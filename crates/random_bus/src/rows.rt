@@ -14,7 +14,8 @@ pub struct Busy {
     pub most: u32,
 }
 
-// The accesses under way of a slot's instruction.
+// The accesses under way of a slot's instruction. The model reads no record past the most that a trace has, where no slot
+// of a run can be.
 fn in_slot(body: &[u8], s: Slot, stage: u8) -> u32
     ensures { λ r. ⌜ r ≤ 1 ⌝ }
 {

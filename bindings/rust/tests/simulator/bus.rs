@@ -28,7 +28,8 @@ pub fn time(trace: &[Instruction], wait: u16) -> u32 {
     worst + accesses(trace) * wait as u32
 }
 
-fn under_way_at(i: &Instruction, at: Place) -> bool {
+/// Whether the instruction, which stands there, has an access under way.
+pub fn under_way_at(i: &Instruction, at: Place) -> bool {
     match (at.stage, i.kind) {
         (If, _) => i.fetch == MISS && at.count > 0,      // a missed fetch in IF with count above 0
         (Mem, LOAD) => i.access == MISS && at.count > 0, // a missed load in MEM with count above 0
