@@ -1,20 +1,23 @@
 -- The part of the file that `locate`'s answer names is the body that Open hands back, in its place: an accepted body lies in its file, and a
--- refusal names an empty part. Such a body is accepted.
-use Prim.Native.Nat.{ℕ, suc, _-_, _<_, _≤_, _/_, _%_}
+-- refusal names an empty part. Such a body is accepted, and is bytes.
+use Prim.Native.Nat.{ℕ, suc, _*_, _-_, _<_, _≤_, _/_, _%_}
 use mathlib.Core.Bool.{Bool, true, false}
 use mathlib.Core.List.{List, []}
 use mathlib.Core.Path.{_≡_, refl, sym, ap, subst, _∙_}
 use borrow.Author.Tests.{ltb-true, le-leb, eqb-true, eq-eqb}
+use native.Mathlib.Decide.{decLt}
 use native.Mathlib.Nat.{add-sub-cancel-left}
 use native.Mathlib.Omega.{arith}
 use lib.Dec.{eqb}
-use lib.ListN.{length, take, drop}
+use lib.ListN.{length, take, drop, List·getD-eq-default}
+use lib.Seq.{getD-take, getD-drop}
 use denote.Ref.{RefT, now}
 use Rattle.machine.specs.State.{maxInstructions}
 use Rattle.record.specs.Part.{StartsAt}
 use Rattle.record.specs.Layout.{recordSize}
 use Rattle.record.specs.Refusal.{_unless_}
-use Rattle.record.specs.Body.{lengthRefusal, recordRefusal, bodyRefusal}
+use Rattle.little_endian.specs.Numbers.{byte}
+use Rattle.record.specs.Body.{Bytes, lengthRefusal, recordRefusal, bodyRefusal}
 use Rattle.record.proofs.Refusals.{then-first, then-second, then-none, unless-passed}
 use Rattle.job.specs.Layout.{traces, countAt, startAt, bodyAt}
 use Rattle.job.specs.Open.{tracesRefusal, fileRefusal, openRefusal, openBody, boundsAt, locateAnswer, partOf}
@@ -104,6 +107,17 @@ module _ (file : List ℕ) (trace : ℕ) where
       (then-none _ _
       (rw (eq-eqb (length (bodyAt file trace) % recordSize) 0 (omega arith), le-leb (length (bodyAt file trace) / recordSize) maxInstructions (omega arith)))
       ∙ first-at (λ t. recordRefusal (bodyAt file t)) (traces file) (fine .records) trace inside)
+
+  -- and it is bytes, as the file is
+  pub opened-bytes : Bytes file → openRefusal file trace ≡ 0 → Bytes (openBody file trace)
+  unfolding openBody
+  opened-bytes bytes e k = rw e (part-byte (decLt k (recordSize * countAt file trace)))
+    where
+      part-byte : Dec (k < recordSize * countAt file trace) → byte (bodyAt file trace) k < 256
+      part-byte (yes h) = rw (getD-take _ (drop (startAt file trace) file) k 0 h, getD-drop (startAt file trace) file k 0) (bytes _)
+      part-byte (no h) =
+          let whole = body-length file (file-fine file (opened-file e) .ends) trace (opened-trace e) in
+          rw (List·getD-eq-default (bodyAt file trace) 0 {n = k} (omega arith)) (omega arith)
 
 module _ (whole part : RefT (List ℕ)) (trace : ℕ) where
   found

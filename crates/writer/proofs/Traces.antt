@@ -4,13 +4,11 @@ use Prim.Native.Nat.{ℕ, zero, suc, _+_, _*_, _<_, _≤_}
 use mathlib.Core.List.{List, [], _∷_, _++_, map, append-assoc, append-nil}
 use mathlib.Core.Path.{_≡_, refl, sym, ap, ap₂, _∙_}
 use borrow.Author.Tests.{eq-eqb}
-use native.Mathlib.Decide.{decLt}
 use native.Mathlib.Nat.{le-refl, le-of-suc-le-suc, not-suc-le-zero}
 use native.Mathlib.Omega.{arith}
-use lib.ListN.{length, getD, take, drop, length-drop, length-map, List·getD-eq-default}
-use lib.Seq.{getD-take, getD-drop, take-all, take-at, take-add, drop-drop, drop-append-add, ext-getD}
+use lib.ListN.{length, getD, take, drop, length-drop, length-map}
+use lib.Seq.{take-all, take-at, take-add, drop-drop, drop-append-add, ext-getD}
 use Rattle.machine.specs.Instruction.{Trace}
-use Rattle.little_endian.specs.Numbers.{byte}
 use Rattle.record.specs.Layout.{recordSize}
 use Rattle.record.specs.Body.{Bytes, records, firsts, traceOf}
 use Rattle.encoding.specs.Encoding.{bodyOf}
@@ -21,7 +19,7 @@ use Rattle.job.specs.Layout.{traces, countAt, entryAt, before, startAt, bodyAt,
 use Rattle.job.specs.Open.{fileRefusal, openBody}
 use Rattle.job.proofs.Accepted.{FileFine, file-fine, open-accepted}
 use Rattle.job.proofs.Joined.{body-length}
-use Rattle.job.proofs.Part.{opened-accepted}
+use Rattle.job.proofs.Part.{opened-accepted, opened-bytes}
 use Rattle.job.proofs.Starts.{start-before}
 use Rattle.writer.specs.Write.{count, fileOf, writeRefusal}
 use Rattle.writer.specs.RoundTrip.{countsOf, recordsAt, bodiesOf, tracesOf, countsIn, joined, fileOfBodies, bodiesRefusal, TracesRoundTrip}
@@ -58,14 +56,6 @@ module _ (file : List ℕ) (accepted : fileRefusal file ≡ 0) where
   opened : (t : ℕ) → t < traces file → openBody file t ≡ bodyAt file t
   unfolding openBody
   opened t l = rw (eq-eqb _ _ (open-accepted file t accepted l))
-
-  opened-bytes : Bytes file → (t : ℕ) → t < traces file → Bytes (openBody file t)
-  opened-bytes bytes t l k = rw (opened t l) (part-byte (decLt k (recordSize * countAt file t)))
-    where
-      part-byte : Dec (k < recordSize * countAt file t) → byte (bodyAt file t) k < 256
-      part-byte (yes h) = rw (getD-take _ (drop (startAt file t) file) k 0 h, getD-drop (startAt file t) file k 0) (bytes _)
-      part-byte (no h) =
-          rw (List·getD-eq-default (bodyAt file t) 0 {n = k} (let e = body-length file (fine .ends) t l in omega arith)) (omega arith)
 
   counts-opened : countsIn (bodiesOf file) ≡ countsOf file
   counts-opened =
@@ -109,7 +99,8 @@ module _ (file : List ℕ) (accepted : fileRefusal file ≡ 0) where
       (ap (map bodyOf) (map-firsts traceOf (openBody file) (traces file))
       ∙ map-firsts bodyOf (λ t. traceOf (openBody file t)) (traces file)
       ∙ firsts-same _ _ (traces file) λ t l.
-      accepted-is-encoded (openBody file t) (opened-bytes bytes t l) (opened-accepted file t (open-accepted file t accepted l)))
+      let passes = open-accepted file t accepted l in
+      accepted-is-encoded (openBody file t) (opened-bytes file t bytes passes) (opened-accepted file t passes))
 
 -- where body t stands among joined ones
 before-cons : (c : ℕ) (counts : List ℕ) (t : ℕ) → before (count (c ∷ counts)) (suc t) ≡ c + before (count counts) t
