@@ -8,11 +8,11 @@
  *  - A pointer is not null, even where its length is 0, and is aligned for its type.
  *  - A length counts elements, and that many stand behind the pointer. No other thread writes to them
  *    during the call, nor reads what the call writes.
- *  - `out` and `state` overlap with nothing else that is lent to the same call. The others may overlap.
+ *  - `out`, `times` and `state` overlap with nothing else that is lent to the same call. The others may overlap.
  *  - A bool in a state is 0 or 1, as every bool that C makes.
  *
  * Nothing else is asked: files, bodies, records, states and numbers may hold anything, and a call refuses
- * what it cannot take. Nothing is kept after a call, and only `out` and `state` are written to.
+ * what it cannot take. Nothing is kept after a call, and only `out`, `times` and `state` are written to.
  *
  * A call that declines gives the first refusal number of its list below that applies, and leaves what was
  * lent as it was. Its other numbers are then 0, a yes or no is false and a part is empty; Step gives the
@@ -45,11 +45,13 @@ enum sic_refusal {
     SIC_NOT_ORDERLY = 12,     /* the state is not orderly */
     SIC_WRONG_RECORDS = 13,   /* the records are not ten bytes for each instruction counted */
     SIC_SHORT_OUTPUT = 14,    /* the output is shorter than the file */
-    SIC_LONG_WAIT = 15        /* a counted latency plus the wait exceeds 65,535 */
+    SIC_LONG_WAIT = 15,       /* a counted latency plus the wait exceeds 65,535 */
+    SIC_SHORT_LIST = 16       /* the list has fewer places than there are traces */
 };
 
 #define SIC_MAX_INSTRUCTIONS 4096
 #define SIC_MAX_FILE_BYTES 65536
+#define SIC_MAX_TRACES 16
 #define SIC_CHART_BYTES (25 + 1001 * 143 + 33) /* the header, rows 0 to 1,000, the last line */
 #define SIC_REPORT_BYTES (17 * 78 + 39) /* the header and 16 lines, the last line */
 
@@ -128,6 +130,11 @@ typedef struct {
     uint32_t refusal, accesses, time;
 } sic_time_on_bus;
 
+/* `traces` is how many the file has, and so how many places of the list are filled; 0 on a refusal, 16 too. */
+typedef struct {
+    uint32_t refusal, traces;
+} sic_whole_job;
+
 /* `traces` is how many the file has; `length` 0 where no report was written. */
 typedef struct {
     uint32_t refusal;
@@ -176,6 +183,11 @@ sic_likeness sic_alike(const uint8_t *first, size_t first_length, const uint8_t 
  * `wait` for each access counted. No settling of the flags finishes later, whichever waits from 0 to `wait`
  * are added to its misses. 10, 8, 15, which is judged on the counted accesses alone. */
 sic_time_on_bus sic_bus_time(const uint8_t *body, size_t body_length, uint16_t wait);
+
+/* A whole job in one call: the worst time of each trace of the file, in the traces' order, in the first places of
+ * `times`, as Open and Best and worst give it for each trace alone. The places after them keep their values.
+ * `times_length` counts places, not bytes; SIC_MAX_TRACES are enough for every file. 1 to 8, as Open; then 16. */
+sic_whole_job sic_worst_times(const uint8_t *file, size_t file_length, uint32_t *times, size_t times_length);
 
 /* The chart of the file's first trace as text, or the line that tells the refusal; its length. An
  * output of fewer than SIC_CHART_BYTES bytes stays as it is, and the length is 0. */

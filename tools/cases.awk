@@ -381,7 +381,7 @@ function one_case(head, rest,   words, n, i, call, body, answer, beside) {
     call = call substr(words[1], 2)
     rest = " " rest
     i = match(rest, / = [^=]*$/)
-    if (!i || index("/check/finish/times/run/margin/bus/open/view/step/alike/write/", "/" words[1] "/") == 0)
+    if (!i || index("/check/finish/times/run/margin/bus/job/open/view/step/alike/write/", "/" words[1] "/") == 0)
         fail("expected CALL ARGUMENTS: BYTES = ANSWER")
     answer = substr(rest, i + 3)
     gsub(/yes/, "1", answer)
@@ -420,6 +420,7 @@ function answered(words, n, answer,   argument) {
     if (words[1] == "run") return argument (answer ~ / / ? with_slots(answer) : answer repeat(" 0", 21))
     if (words[1] == "view") return argument answer (answer ~ /^[0-9]+ [0-9]+$/ ? repeat(" 0", 9) : "")
     if (words[1] == "open") return words[2] " " opened(words[2], answer)
+    if (words[1] == "job") return argument with_list(words[2], answer)
     if (words[1] == "margin") return argument three(with_sign(answer), 3)
     if (words[1] == "check" && answer !~ / /) fail("expected two refusals")
     return argument three(answer, words[1] == "times" || words[1] == "bus" ? 3 : 2)
@@ -436,6 +437,15 @@ function with_slots(answer,   words, n, i, text) {
 }
 # A state has the place that it has after a run: two zeros stand for the cycles and for whether all have left.
 function after_step(answer) { sub(/ /, " 0 0 ", answer); return with_slots(answer) }
+# The refusal, the count of traces, and all twenty places of the list: those that are not filled hold what they held before.
+function with_list(places, answer,   words, n, p) {
+    if (places > 20) fail("a list has at most 20 places")
+    n = split(answer, words, " ")
+    if (n == 1) answer = answer " 0"
+    else if (n != 2 + words[2] || words[1] != 0) fail("expected a refusal, or 0, a count and as many times")
+    for (p = n < 2 ? 0 : n - 2; p < 20; p++) answer = answer " " 900000 + p
+    return answer
+}
 # A margin is how far it is above 0, and how far below.
 function with_sign(answer) {
     if (!sub(/ -/, " 0 ", answer) && answer ~ / /) answer = answer " 0"

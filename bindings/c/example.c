@@ -35,8 +35,12 @@ static void files(void) {
     sic_written w = sic_write(counts, 2, task, sizeof task, file, sizeof file);
     sic_part part = sic_open(file, w.length, 0);
     sic_read r = sic_record(file + part.start, part.length, 0);
+    uint32_t worst[SIC_MAX_TRACES] = {1, 2, 3};
+    sic_whole_job job = sic_worst_times(file, w.length, worst, SIC_MAX_TRACES);
+    sic_whole_job short_list = sic_worst_times(file, w.length, worst, 1);
     sic_reported report = sic_report(file, w.length, &deadline, 1, text, sizeof text);
     printf("file of %u bytes, body at %zu of %zu, data latency %u\n", w.length, part.start, part.length, r.fields.data_latency);
+    printf("%u worst times, %u and %u, then still %u; of a list of one place refused %u\n", job.traces, worst[0], worst[1], worst[2], short_list.refusal);
     printf("%.*s", (int)report.length, (const char *)text);
     printf("%.*s", (int)sic_chart(file, 1, text, sizeof text), (const char *)text);
 }

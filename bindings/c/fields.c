@@ -203,11 +203,35 @@ static void files(void) {
     IS(sic_open(file, SIC_MAX_FILE_BYTES + 1, 0).refusal, SIC_TOO_LONG);
 }
 
+/* A plain instruction, the task, and two plain ones, with lists that are too short, just long enough, and longer. */
+static void jobs(void) {
+    static uint8_t file[SIC_MAX_FILE_BYTES];
+    const uint16_t counts[3] = {1, 2, 2};
+    uint8_t records[50];
+    uint32_t times[5];
+    memcpy(records, plain, 10), memcpy(records + 10, task, 20), memcpy(records + 30, plain, 20);
+    const uint32_t length = sic_write(counts, 3, records, sizeof records, file, sizeof file).length;
+    for (size_t places = 0; places <= 5; places++) {
+        for (uint32_t p = 0; p < 5; p++) times[p] = UINT32_MAX - p;
+        sic_whole_job j = sic_worst_times(file, length, times, places);
+        const bool fits = places >= 3;
+        IS(j.refusal, fits ? 0 : SIC_SHORT_LIST), IS(j.traces, fits ? 3 : 0);
+        IS(times[0], fits ? 6 : UINT32_MAX), IS(times[1], fits ? 18 : UINT32_MAX - 1), IS(times[2], fits ? 7 : UINT32_MAX - 2);
+        IS(times[3], UINT32_MAX - 3), IS(times[4], UINT32_MAX - 4);
+    }
+    sic_whole_job j = sic_worst_times(file, 1, times, 0);
+    IS(j.refusal, SIC_TOO_SHORT), IS(j.traces, 0);
+}
+
 static void limits(void) {
     static uint8_t longest[10 * (SIC_MAX_INSTRUCTIONS + 1)];
     for (size_t i = 0; i <= SIC_MAX_INSTRUCTIONS; i++) memcpy(longest + 10 * i, plain, 10);
     IS(sic_check(longest, 10 * SIC_MAX_INSTRUCTIONS), 0);
     IS(sic_check(longest, 10 * (SIC_MAX_INSTRUCTIONS + 1)), SIC_WRONG_LENGTH);
+    static const uint16_t empty[SIC_MAX_TRACES + 1];
+    static uint8_t file[2 + 6 * (SIC_MAX_TRACES + 1)];
+    IS(sic_write(empty, SIC_MAX_TRACES, longest, 0, file, sizeof file).refusal, 0);
+    IS(sic_write(empty, SIC_MAX_TRACES + 1, longest, 0, file, sizeof file).refusal, SIC_TOO_MANY_TRACES);
 }
 
 int main(void) {
@@ -221,6 +245,7 @@ int main(void) {
     bus_times();
     records();
     files();
+    jobs();
     limits();
     if (differ == 0) printf("%u values of fields, each where include/sic.h has it\n", tried);
     return differ != 0;

@@ -7,5 +7,9 @@ int main() {
     if (finished.refusal != 0 || finished.time != 6) return 1;
     const uint8_t unknown_fetch[10] = {0, 2, 0, 0, 0, 0, 10, 0, 0, 0};
     const sic_time_on_bus bus = sic_bus_time(unknown_fetch, sizeof unknown_fetch, 7);
-    return bus.refusal == 0 && bus.accesses == 1 && bus.time == 23 ? 0 : 1;
+    if (bus.refusal != 0 || bus.accesses != 1 || bus.time != 23) return 1;
+    const uint8_t no_traces[2] = {0, 0};
+    uint32_t times[1] = {7};
+    const sic_whole_job job = sic_worst_times(no_traces, sizeof no_traces, times, 1);
+    return job.refusal == 0 && job.traces == 0 && times[0] == 7 ? 0 : 1;
 }

@@ -1,7 +1,7 @@
 //! Where each field of each struct of include/sic.h stands, in bytes from its start, and how many bytes the struct takes, on
 //! x86-64. The crate does not build where a struct of its own differs from this table; tools/test-bindings makes the same
 //! assertions of it in C and in C++, and bindings/c/fields.c shows that the library reads and writes the fields there.
-use crate::raw::{BestAndWorst, DeadlineMargin, Finished, Likeness, Part, Ran, Read, Reported, Stepped, TimeOnBus, Written};
+use crate::raw::{BestAndWorst, DeadlineMargin, Finished, Likeness, Part, Ran, Read, Reported, Stepped, TimeOnBus, WholeJob, Written};
 use crate::{Fields, Slot, State};
 use std::mem::{offset_of, size_of};
 
@@ -28,5 +28,6 @@ layout! {
     sic_deadline_margin DeadlineMargin 16 { refusal 0, margin 8 }
     sic_likeness Likeness 8 { refusal 0, alike 4 }
     sic_time_on_bus TimeOnBus 12 { refusal 0, accesses 4, time 8 }
+    sic_whole_job WholeJob 8 { refusal 0, traces 4 }
     sic_reported Reported 16 { refusal 0, traces 4, length 8 }
 }

@@ -22,6 +22,8 @@ pub use refusal::Refusal;
 pub const MAX_INSTRUCTIONS: usize = 4096;
 /// The most bytes that a job file has.
 pub const MAX_FILE_BYTES: usize = 65536;
+/// The most traces that a job file has.
+pub const MAX_TRACES: usize = 16;
 /// The bytes of a record.
 pub const RECORD_SIZE: usize = 10;
 const CHART_BYTES: usize = 25 + 1001 * 143 + 33; // the header, rows 0 to 1,000, the last line
@@ -216,6 +218,27 @@ pub fn alike(first: &[u8], second: &[u8]) -> Result<bool, Refusal> {
 pub fn bus_time(body: &[u8], wait: u16) -> Result<TimeOnBus, Refusal> {
     let bus = unsafe { raw::sic_bus_time(body.as_ptr(), body.len(), wait) };
     answer(bus.refusal, TimeOnBus { accesses: bus.accesses, time: bus.time })
+}
+
+/// The worst time of each trace of a job file, in the traces' order, in the first places of `times`; how many they are. The
+/// places after them keep their values. Each time is what `open` and `best_worst` give for that trace alone, but the file is
+/// checked once. Refuses 1 to 8, as `open`, then 16; a list of `MAX_TRACES` places is always long enough.
+///
+/// ```
+/// use sic::Refusal;
+///
+/// let mut file = [0; 34];
+/// sic::write(&[1, 1], &[0, 0, 0, 0, 0, 0, 1, 0, 0, 0, 0, 2, 0, 0, 0, 0, 10, 0, 0, 0], &mut file)?;
+/// let mut times = [7; 3];
+/// assert_eq!(sic::worst_times(&file, &mut times), Ok(2));
+/// assert_eq!(times, [6, 16, 7]);
+/// assert_eq!(sic::worst_times(&file, &mut times[..1]), Err(Refusal::ShortList));
+/// # Ok::<(), Refusal>(())
+/// ```
+#[inline]
+pub fn worst_times(file: &[u8], times: &mut [u32]) -> Result<usize, Refusal> {
+    let job = unsafe { raw::sic_worst_times(file.as_ptr(), file.len(), times.as_mut_ptr(), times.len()) };
+    answer(job.refusal, job.traces as usize)
 }
 
 /// The chart of a job file's first trace, or the line that tells its refusal.

@@ -67,6 +67,12 @@ pub struct TimeOnBus {
 }
 
 #[repr(C)]
+pub struct WholeJob {
+    pub refusal: u32,
+    pub traces: u32,
+}
+
+#[repr(C)]
 pub struct Reported {
     pub refusal: u32,
     pub traces: u32,
@@ -87,6 +93,7 @@ extern "C" {
     pub fn sic_margin(body: *const u8, body_length: usize, deadline: u32) -> DeadlineMargin;
     pub fn sic_alike(first: *const u8, first_length: usize, second: *const u8, second_length: usize) -> Likeness;
     pub fn sic_bus_time(body: *const u8, body_length: usize, wait: u16) -> TimeOnBus;
+    pub fn sic_worst_times(file: *const u8, file_length: usize, times: *mut u32, times_length: usize) -> WholeJob;
     pub fn sic_chart(file: *const u8, file_length: usize, out: *mut u8, out_length: usize) -> usize;
     pub fn sic_report(
         file: *const u8,

@@ -20,9 +20,10 @@ pub enum Refusal {
     WrongRecords = 13,
     ShortOutput = 14,
     LongWait = 15,
+    ShortList = 16,
 }
 
-const ALL: [Refusal; 15] = [
+const ALL: [Refusal; 16] = [
     Refusal::TooLong,
     Refusal::TooShort,
     Refusal::TooManyTraces,
@@ -38,6 +39,7 @@ const ALL: [Refusal; 15] = [
     Refusal::WrongRecords,
     Refusal::ShortOutput,
     Refusal::LongWait,
+    Refusal::ShortList,
 ];
 
 impl Refusal {
@@ -68,6 +70,7 @@ impl Refusal {
             Refusal::WrongRecords => "the records are not ten bytes for each instruction counted",
             Refusal::ShortOutput => "the output is shorter than the file",
             Refusal::LongWait => "a counted latency plus the wait exceeds 65,535",
+            Refusal::ShortList => "the list has fewer places than there are traces",
         }
     }
 }

@@ -117,6 +117,78 @@ fn bus_times_refuse_10_then_8_then_15() {
     assert_eq!((refused.refusal, refused.accesses, refused.time), (15, 0, 0));
 }
 
+/// Each place has a value of its own, which is no time.
+fn list_of(places: usize) -> Vec<u32> {
+    (0..places).map(|p| u32::MAX - p as u32).collect()
+}
+
+/// The call on a list of so many places: the refusal, or how many are filled, and the list afterwards.
+fn worst_times(file: &[u8], places: usize) -> (Result<usize, u32>, Vec<u32>) {
+    let mut times = list_of(places);
+    (sic::worst_times(file, &mut times).map_err(Refusal::number), times)
+}
+
+/// B, C, an empty trace, L and I, with lists that are just long enough, longer, and too short.
+#[test]
+fn a_whole_job() {
+    let l = [memory(LOAD, UNKNOWN, 10), Instruction { fetch: UNKNOWN, ..plain() }];
+    let records = encode(&[&[plain(), memory(LOAD, MISS, 10)], &l[..], &[memory(STORE, MISS, 10)]].concat());
+    let file = write(&[1, 1, 0, 2, 1], &records, 200).unwrap();
+    for places in [5, 6, 8, 16, 100] {
+        let (answer, times) = worst_times(&file, places);
+        assert_eq!(answer, Ok(5));
+        assert_eq!(times[..5], [6, 16, 0, 21, 15]);
+        assert_eq!(times[5..], list_of(places)[5..]);
+    }
+    for places in 0..5 {
+        assert_eq!(worst_times(&file, places), (Err(16), list_of(places)));
+    }
+    let refused = unsafe { sic::raw::sic_worst_times(file.as_ptr(), file.len(), list_of(4).as_mut_ptr(), 4) };
+    assert_eq!((refused.refusal, refused.traces), (16, 0));
+}
+
+#[test]
+fn jobs_of_0_and_16_traces() {
+    for places in [0, 1, 16] {
+        assert_eq!(worst_times(&[0, 0], places), (Ok(0), list_of(places)));
+    }
+    let bodies: Vec<Vec<u8>> = (0..16).map(|t| encode(&vec![plain(); t])).collect();
+    let counts: Vec<u16> = (0..16).collect();
+    let file = write(&counts, &bodies.concat(), 2000).unwrap();
+    let alone: Vec<u32> = bodies.iter().map(|body| sic::best_worst(body).unwrap().worst).collect();
+    assert_eq!(worst_times(&file, 16), (Ok(16), alone));
+    assert_eq!(worst_times(&file, 15), (Err(16), list_of(15)));
+}
+
+/// A file that Open declines, with lists that would be long enough for it and lists that would not: Open's number, and no
+/// place altered.
+#[test]
+fn jobs_refuse_1_to_8_then_16() {
+    let file = write(&[1, 0, 2], &encode(&[plain(); 3]), 100).unwrap();
+    let mut broken = file.clone();
+    *broken.last_mut().unwrap() = 1;
+    let mut moved = file.clone();
+    moved[8] += 1;
+    let long = vec![0; 65537];
+    let declined: [(&[u8], u32); 8] = [
+        (&long, 1),
+        (&file[..1], 2),
+        (&[17, 0], 3),
+        (&[1, 0, 8], 4),
+        (&[1, 0, 8, 0, 0, 0, 1, 16], 5),
+        (&moved, 6),
+        (&file[..file.len() - 1], 7),
+        (&broken, 8),
+    ];
+    for (file, number) in declined {
+        assert_eq!(sic::open(file, 0).map_err(Refusal::number), Err(number));
+        for places in [0, 2, 3, 20] {
+            assert_eq!(worst_times(file, places), (Err(number), list_of(places)));
+        }
+    }
+    assert_eq!(worst_times(&file, 2).0, Err(16));
+}
+
 #[test]
 fn refusals_of_bodies() {
     let good = encode(&[plain(), memory(LOAD, MISS, 3)]);
@@ -220,8 +292,8 @@ fn writing_at_its_borders() {
 #[test]
 fn refusals_speak() {
     assert_eq!(Refusal::of(0), None);
-    assert_eq!(Refusal::of(16), None);
-    for n in 1..=15 {
+    assert_eq!(Refusal::of(17), None);
+    for n in 1..=16 {
         let refusal = Refusal::of(n).unwrap();
         assert_eq!(refusal.number(), n);
         assert!(refusal.to_string().starts_with(&format!("refused {n}: ")));

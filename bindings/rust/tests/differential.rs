@@ -141,7 +141,7 @@ fn bounds_agree(trace: &[Instruction], deadline: u32) -> u64 {
     if unknowns(trace) > MOST_UNKNOWNS {
         return 0;
     }
-    let times: Vec<u32> = (0..1 << unknowns(trace)).map(|choice| finish(&settle(trace, choice))).collect();
+    let times = settling_times(trace);
     let (best, worst) = (*times.iter().min().unwrap(), *times.iter().max().unwrap());
     let body = encode(trace);
     assert_eq!(sic::best_worst(&body), Ok(sic::BestAndWorst { best, worst }));
@@ -149,15 +149,20 @@ fn bounds_agree(trace: &[Instruction], deadline: u32) -> u64 {
     times.len() as u64
 }
 
-/// What the call answers to any body: where the simulator does not run the settlings, the worst time is the library's own.
+/// The worst time of an accepted body by the simulator; where it does not run the settlings, the library's own.
+fn worst_of(body: &[u8]) -> u32 {
+    let trace = decode(body);
+    match sic::best_worst(body).unwrap().worst {
+        time if time < 1000 && unknowns(&trace) <= MOST_UNKNOWNS => settling_times(&trace).into_iter().max().unwrap(),
+        time => time,
+    }
+}
+
+/// What the call answers to any body.
 fn bus_times_agree(body: &[u8], wait: u16) {
     let trace = decode(body);
-    let time = || match sic::best_worst(body).unwrap().worst {
-        worst if worst < 1000 && unknowns(&trace) <= MOST_UNKNOWNS => bus::time(&trace, wait),
-        worst => worst + bus::accesses(&trace) * wait as u32,
-    };
     let expected = match bus::refusal(body, wait) {
-        0 => Ok((bus::accesses(&trace), time())),
+        0 => Ok((bus::accesses(&trace), bus::time(&trace, worst_of(body), wait))),
         number => Err(number),
     };
     assert_eq!(sic::bus_time(body, wait).map(|b| (b.accesses, b.time)).map_err(|r| r.number()), expected, "wait {wait}");
@@ -240,6 +245,31 @@ fn files_agree(dice: &mut Dice, records: &[u8]) {
     }
 }
 
+/// A list of so many places, each with a value of its own, which is no time.
+fn list_of(places: usize) -> Vec<u32> {
+    (0..places).map(|p| u32::MAX - p as u32).collect()
+}
+
+/// What the call answers to any file and list, and every place of the list afterwards.
+fn jobs_agree(file: &[u8], places: usize) {
+    let mut times = list_of(places);
+    assert_eq!(sic::worst_times(file, &mut times).map_err(|r| r.number()), job::traces(file, places), "{places} places");
+    assert_eq!(times, job::list(file, &list_of(places), worst_of), "{places} places");
+}
+
+/// A job of 0 to 16 short traces, whole and damaged, with lists about as long as it has traces.
+fn whole_jobs_agree(dice: &mut Dice) {
+    let traces: Vec<Vec<Instruction>> = (0..dice.below(17)).map(|_| (0..dice.below(4)).map(|_| dice.instruction(3)).collect()).collect();
+    let counts: Vec<u16> = traces.iter().map(|t| t.len() as u16).collect();
+    let mut file = write(&counts, &encode(&traces.concat()), sic::MAX_FILE_BYTES).unwrap();
+    for _ in 0..2 {
+        for places in [traces.len().saturating_sub(1), traces.len(), traces.len() + 3] {
+            jobs_agree(&file, places);
+        }
+        dice.damage(&mut file);
+    }
+}
+
 /// The trace on a bus, and its first few instructions with every wait; how many settlings with their waits were run.
 fn buses_agree(dice: &mut Dice, mut trace: Vec<Instruction>) -> u64 {
     dice.lengthen_hits(&mut trace);
@@ -262,6 +292,7 @@ fn one_round(seed: u64) -> u64 {
     let other = dice.trace(2);
     assert_eq!(sic::alike(&encode(&trace), &encode(&other)), Ok(finish(&trace) == finish(&other)));
     files_agree(&mut dice, &encode(&unknown));
+    whole_jobs_agree(&mut dice);
     let waiting = buses_agree(&mut dice, unknown.clone());
     let mut body = encode(&unknown);
     dice.damage(&mut body);
@@ -303,5 +334,5 @@ fn random_rounds() {
     let now = SystemTime::now().duration_since(UNIX_EPOCH).unwrap().as_nanos() as u64;
     let first = given("SIC_SEED").unwrap_or(now);
     let (rounds, traces) = rounds(first, given("SIC_SECONDS").unwrap_or(5));
-    println!("{rounds} rounds from SIC_SEED={first}: {traces} traces, {} states, {} files", 8 * rounds, 4 * rounds);
+    println!("{rounds} rounds from SIC_SEED={first}: {traces} traces, {} states, {} files, {} jobs", 8 * rounds, 4 * rounds, 2 * rounds);
 }

@@ -48,6 +48,27 @@ fn opened_alike(body: &[u8]) {
     }
 }
 
+/// Jobs of up to 16 traces of so many instructions, whole and cut, with a list that is long enough and one that is not.
+fn jobs_alike(records: &[u8], n: usize) {
+    for records in records.chunks(16 * n * RECORD_SIZE) {
+        let traces = records.len() / RECORD_SIZE / n;
+        let mut file = vec![0; sic::MAX_FILE_BYTES];
+        let length = sic::write(&vec![n as u16; traces], &records[..traces * n * RECORD_SIZE], &mut file).unwrap();
+        for (length, places) in [(length, traces), (length, traces + 3), (length, traces - 1), (length - 1, traces)] {
+            let (mut ours, mut rust) = (vec![7; places], vec![7; places]);
+            assert_eq!(number(sic::worst_times(&file[..length], &mut ours)), natural::worst_times(&file[..length], &mut rust));
+            assert_eq!(ours, rust);
+        }
+    }
+}
+
+#[test]
+fn random_jobs() {
+    for n in [1, 12, 400] {
+        jobs_alike(&traces::random(12000, 8, 3), n);
+    }
+}
+
 #[test]
 fn random_bodies() {
     let (known, any) = (traces::random(12000, 8, 2), traces::random(12000, 8, 3));

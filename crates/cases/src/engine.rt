@@ -1,4 +1,5 @@
 // The engine's answer to a case.
+use crate::jobs::fills;
 use crate::writing::writes;
 use case_text::first;
 use case_text::narrow;
@@ -58,6 +59,7 @@ pub fn answers(call: u8, s: &[u8], argument: u32, body: &[u8], beside: &[u8]) ->
     match call {
         b'o' => open(s, argument, body),
         b'w' => writes(s, body, beside, true),
+        b'j' => fills(s, argument, body, true),
         b'c' => says(
             s,
             acceptance::body_refusal(body),

@@ -10,6 +10,7 @@
 //                      fewer than three numbers has zeros behind them
 //   group LABEL        the end of a group
 mod engine;
+mod jobs;
 mod lines;
 mod second;
 mod writing;

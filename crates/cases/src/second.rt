@@ -1,4 +1,5 @@
 // The second model's answer to a case. It has no View and no Step: of these it judges the body.
+use crate::jobs::fills;
 use crate::writing::writes;
 use case_text::first;
 use case_text::narrow;
@@ -102,6 +103,7 @@ pub fn answers(call: u8, s: &[u8], argument: u32, body: &[u8], beside: &[u8]) ->
     match call {
         b'o' => open(s, argument, body),
         b'w' => writes(s, body, beside, false),
+        b'j' => fills(s, argument, body, false),
         b'c' => says(
             s,
             model::body_refusal(body),

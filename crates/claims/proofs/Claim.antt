@@ -67,7 +67,7 @@ module _ (body : List ℕ) where
   unfolding bestWorstAnswer
   best-answered p = rw (eq-eqb (bodyRefusal body) 0 (p .passes))
 
-  worst-answered : Passes bodyRefusal body → calls .worst body ≡ rules .worst body
+  pub worst-answered : Passes bodyRefusal body → calls .worst body ≡ rules .worst body
   unfolding bestWorstAnswer
   worst-answered p = rw (eq-eqb (bodyRefusal body) 0 (p .passes))
 

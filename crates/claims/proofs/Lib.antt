@@ -2,3 +2,4 @@ pub mod Bus
 pub mod BusCases
 pub mod Cases
 pub mod Claim
+pub mod Job

@@ -1,5 +1,5 @@
-// Job files and bodies: Open, Write, the body's check, reading a record, the chart, the
-// report.
+// Job files and bodies: Open, Write, the body's check, reading a record, a whole job's worst times, the
+// chart, the report.
 ghost use mathlib.Core.Path.{_≡_};
 ghost use lib.ListN.{length, take, drop};
 ghost use Rattle.record.specs.Body.{bodyRefusal, readAnswer};
@@ -7,9 +7,11 @@ ghost use Rattle.job.specs.Open.{openBody};
 ghost use Rattle.writer.specs.Write.{writeAnswer, writeOutput};
 ghost use Rattle.chart_text.specs.Chart.{chartLength, chartOutput};
 ghost use Rattle.report_text.specs.Report.{reportAnswer, reportOutput};
+ghost use Rattle.whole_job.specs.Answers.{jobAnswer, jobTimes};
 ghost use Rattle.sic.specs.Part.{openPart};
 use record::Read;
 use report_text::Reported;
+use whole_job::WholeJob;
 use writer::Written;
 
 // A part of a file: where it starts and how long it is.
@@ -55,6 +57,13 @@ pub extern "C" fn sic_record(body: &[u8], k: u32) -> Read
     ensures { λ r. ⌜ r ≡ readAnswer (now (body .entry)) k ⌝ }
 {
     record::fields_at(body, k)
+}
+
+#[no_mangle]
+pub extern "C" fn sic_worst_times(file: &[u8], times: &mut [u32]) -> WholeJob
+    ensures { λ r. ⌜ (r ≡ jobAnswer (now (file .entry)) (length (now (times .entry)))) × (now (times .exit) ≡ jobTimes (now (file .entry)) (now (times .entry))) ⌝ }
+{
+    whole_job::worst_times(file, times)
 }
 
 #[no_mangle]

@@ -11,6 +11,7 @@ pub use files::sic_check;
 pub use files::sic_open;
 pub use files::sic_record;
 pub use files::sic_report;
+pub use files::sic_worst_times;
 pub use files::sic_write;
 pub use states::sic_advance;
 pub use states::sic_run;

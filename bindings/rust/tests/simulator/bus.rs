@@ -22,9 +22,8 @@ pub fn refusal(body: &[u8], wait: u16) -> u32 {
     }
 }
 
-/// "Worst time plus N times d", the worst of all settlings, each run cycle after cycle.
-pub fn time(trace: &[Instruction], wait: u16) -> u32 {
-    let worst = (0..1 << unknowns(trace)).map(|choice| finish(&settle(trace, choice))).max().unwrap();
+/// "Worst time plus N times d", for the worst time given.
+pub fn time(trace: &[Instruction], worst: u32, wait: u16) -> u32 {
     worst + accesses(trace) * wait as u32
 }
 

@@ -4,6 +4,7 @@
 pub mod bus;
 pub mod by_value;
 pub mod dice;
+pub mod job;
 
 pub const LOAD: u8 = 1;
 pub const STORE: u8 = 2;
@@ -282,6 +283,11 @@ pub fn settle(trace: &[Instruction], mut choice: u32) -> Vec<Instruction> {
         bit as u8
     };
     trace.iter().map(|i| Instruction { fetch: flag(i.fetch), access: flag(i.access), ..*i }).collect()
+}
+
+/// The finishing time of each settling, run cycle after cycle.
+pub fn settling_times(trace: &[Instruction]) -> Vec<u32> {
+    (0..1 << unknowns(trace)).map(|choice| finish(&settle(trace, choice))).collect()
 }
 
 /// What Open answers: the refusal, and where the body is.

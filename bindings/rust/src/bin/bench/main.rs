@@ -39,15 +39,16 @@ fn simulated<T>(bodies: &[&[u8]], f: impl Fn(&[u8]) -> T) -> f64 {
     once(|| bodies.iter().for_each(|b| drop(black_box(f(b))))).1 / bodies.len() as f64
 }
 
-fn file_of(body: &[u8]) -> Vec<u8> {
+/// A job file of so many traces, all of the same length.
+fn file_of(traces: usize, records: &[u8]) -> Vec<u8> {
     let mut file = vec![0; sic::MAX_FILE_BYTES];
-    let length = sic::write(&[(body.len() / sic::RECORD_SIZE) as u16], body, &mut file).unwrap();
+    let length = sic::write(&vec![(records.len() / sic::RECORD_SIZE / traces) as u16; traces], records, &mut file).unwrap();
     file.truncate(length);
     file
 }
 
 fn checks(trace: &str, bodies: &[&[u8]]) {
-    let files: Vec<Vec<u8>> = bodies.iter().map(|b| file_of(b)).collect();
+    let files: Vec<Vec<u8>> = bodies.iter().map(|b| file_of(1, b)).collect();
     let opened = |part: &[u8]| (part.len(), part.as_ptr());
     let open = race_each(&files, |f| number(sic::open(f, 0)).map(opened), |f| natural::open(f, 0).map(opened));
     line("Open", trace, open, None);
@@ -151,6 +152,36 @@ fn random_calls(trace: &str, most: u64, instructions: usize) {
     calls(trace, &traces::random(RANDOM, most, 2), &traces::random(RANDOM, most, 3), instructions);
 }
 
+/// What is in a list that is long enough for any job, once its places are filled.
+fn filled<E: std::fmt::Debug>(fill: impl Fn(&mut [u32]) -> Result<usize, E>) -> [u32; sic::MAX_TRACES] {
+    let mut times = [0; sic::MAX_TRACES];
+    fill(&mut times).unwrap();
+    times
+}
+
+/// The same without the call: each trace is opened and timed by itself.
+fn each_alone(file: &[u8], traces: usize, worst: impl Fn(&[u8]) -> u32) -> [u32; sic::MAX_TRACES] {
+    filled(|times| {
+        for t in 0..traces {
+            times[t] = worst(sic::open(file, t as u32)?);
+        }
+        Ok::<usize, sic::Refusal>(traces)
+    })
+}
+
+/// Random jobs of so many traces of so many instructions: in one call, beside the same in Rust, and beside each trace alone,
+/// its worst time taken from Best and worst, or from Margin, which passes over the body once.
+fn whole_jobs(count: usize, instructions: usize) {
+    let records = traces::random(RANDOM, 8, 3);
+    let files: Vec<Vec<u8>> = bodies_of(&records, count * instructions).iter().map(|r| file_of(count, r)).collect();
+    let one_call = |f: &Vec<u8>| filled(|times| sic::worst_times(f, times));
+    let (ours, rust) = race_each(&files, one_call, |f| filled(|times| natural::worst_times(f, times)));
+    let by_best_worst = race_each(&files, one_call, |f| each_alone(f, count, |b| sic::best_worst(b).unwrap().worst));
+    let by_margin = race_each(&files, one_call, |f| each_alone(f, count, |b| -sic::margin(b, 0).unwrap() as u32));
+    let alone = |(one, each): (f64, f64)| format!("{:.2} us | {:.1}", each / 1e3, each / one);
+    println!("| {count} | {instructions} | {:.2} us | {:.2} | {} | {} |", ours / 1e3, ours / rust, alone(by_best_worst), alone(by_margin));
+}
+
 /// The time of a call for each instruction of the bodies, which it goes through in turn.
 fn each_instruction<T>(bodies: &[&[u8]], f: impl Fn(&[u8]) -> T) -> f64 {
     let instructions = bodies.iter().map(|b| b.len() / sic::RECORD_SIZE).sum::<usize>() as f64;
@@ -181,6 +212,10 @@ fn main() {
     for most in [1, 100, 5000, 65535] {
         growth(N, most);
     }
+    println!("\n| traces in the job | instructions in each | one call | of the same in Rust | each opened, Best and worst | times faster | each opened, Margin | times faster |");
+    println!("|---|---|---|---|---|---|---|---|");
+    whole_jobs(16, 400);
+    whole_jobs(1, N);
     match mca::time(N) {
         Some(t) => println!("\nllvm-mca, {N} instructions: {:.2} ms beside its start", t / 1e6),
         None => println!("\nllvm-mca is not on the PATH"),

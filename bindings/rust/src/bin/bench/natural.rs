@@ -384,7 +384,16 @@ pub fn best_worst_by_cycles(body: &[u8]) -> (u32, u32) {
     (time(0), time(1))
 }
 
-pub fn open(file: &[u8], trace: u32) -> Result<&[u8], u32> {
+/// Where the body of a trace of a checked file starts and ends.
+fn bounds(file: &[u8], trace: usize) -> std::ops::Range<usize> {
+    let half = |at: usize| u16::from_le_bytes([file[at], file[at + 1]]) as usize;
+    let at = 2 + 6 * trace;
+    let start = half(at) + 65536 * half(at + 2);
+    start..start + 10 * half(at + 4)
+}
+
+/// How many traces a file has that nothing declines.
+fn check_file(file: &[u8]) -> Result<usize, u32> {
     if file.len() > 65536 {
         return Err(1);
     }
@@ -400,7 +409,6 @@ pub fn open(file: &[u8], trace: u32) -> Result<&[u8], u32> {
         return Err(4);
     }
     let mut end = 2 + 6 * count;
-    let mut found = None;
     for t in 0..count {
         let at = 2 + 6 * t;
         if half(at + 4) > 4096 {
@@ -409,11 +417,7 @@ pub fn open(file: &[u8], trace: u32) -> Result<&[u8], u32> {
         if half(at) + 65536 * half(at + 2) != end {
             return Err(6);
         }
-        let start = end;
         end += 10 * half(at + 4);
-        if t == trace as usize {
-            found = Some((start, end));
-        }
     }
     if file.len() != end {
         return Err(7);
@@ -421,5 +425,24 @@ pub fn open(file: &[u8], trace: u32) -> Result<&[u8], u32> {
     if file[2 + 6 * count..].chunks_exact(10).any(broken) {
         return Err(8);
     }
-    found.map(|(start, end)| &file[start..end]).ok_or(9)
+    Ok(count)
+}
+
+pub fn open(file: &[u8], trace: u32) -> Result<&[u8], u32> {
+    let count = check_file(file)?;
+    if trace as usize >= count {
+        return Err(9);
+    }
+    Ok(&file[bounds(file, trace as usize)])
+}
+
+pub fn worst_times(file: &[u8], times: &mut [u32]) -> Result<usize, u32> {
+    let count = check_file(file)?;
+    if times.len() < count {
+        return Err(16);
+    }
+    for (t, time) in times.iter_mut().enumerate().take(count) {
+        *time = pass(&file[bounds(file, t)], 1);
+    }
+    Ok(count)
 }

@@ -1,0 +1,21 @@
+//! A whole job in one call, from document 02: how many traces, and what is in the list afterwards.
+use super::*;
+
+/// "1 to 8 as in Open, then 16: the list has fewer than T places", or T.
+pub fn traces(file: &[u8], places: usize) -> Result<usize, u32> {
+    match open(file, 0) {
+        Err(n) if n != 9 => Err(n),
+        _ => match u16::from_le_bytes([file[0], file[1]]) as usize {
+            traces if places < traces => Err(16),
+            traces => Ok(traces),
+        },
+    }
+}
+
+/// The list after the call: "fills its first T places. Each equals what opening and timing that trace alone gives; the rest
+/// of the list keeps its values." The time of a body alone is given.
+pub fn list(file: &[u8], former: &[u32], time: impl Fn(&[u8]) -> u32) -> Vec<u32> {
+    let filled = traces(file, former.len()).unwrap_or(0);
+    let alone = |t: usize| open(file, t as u32).map(|(at, length)| time(&file[at..at + length])).unwrap();
+    (0..former.len()).map(|p| if p < filled { alone(p) } else { former[p] }).collect()
+}

@@ -1,0 +1,73 @@
+// A whole job, whose list is seen place by place. Before the call each place holds a value of its own, which no
+// case has as a time; the places past the lent ones are seen too.
+ghost use mathlib.Core.Path.{_≡_};
+ghost use lib.ListN.{length};
+use case_text::says_all;
+use case_text::wide;
+
+// Twenty places, behind two for the refusal and the count of traces.
+const TOLD: usize = 22;
+
+const FORMER: u32 = 900000;
+
+// The list before the call, and zeros in the two places before it.
+fn unfilled() -> [u32; TOLD]
+    ensures { λ r. ⌜ 22 ≡ length r ⌝ }
+{
+    let mut told = [0u32; TOLD];
+    let mut former = FORMER;
+    let mut at = 2;
+    while at < TOLD {
+        told[at] = former;
+        former += 1;
+        at += 1;
+    }
+    told
+}
+
+fn put(told: &mut [u32], at: usize, value: u32) {
+    if at < told.len() {
+        told[at] = value;
+    }
+}
+
+// The call on the list, which ends at an index; what it answers is put before the list.
+fn engine_fills(file: &[u8], end: usize, told: &mut [u32]) {
+    if end < 2 {
+        return;
+    }
+    if end > told.len() {
+        return;
+    }
+    let job = whole_job::worst_times(file, &mut told[2..end]);
+    put(told, 0, job.refusal);
+    put(told, 1, job.traces);
+}
+
+fn model_fills(file: &[u8], end: usize, told: &mut [u32]) {
+    if end < 2 {
+        return;
+    }
+    if end > told.len() {
+        return;
+    }
+    let job = model_job::worst_times(file, &mut told[2..end]);
+    put(told, 0, job.refusal);
+    put(told, 1, job.traces);
+}
+
+// Whether the line tells all that is there after the call.
+fn told_after(s: &[u8], file: &[u8], end: usize, by_engine: bool, told: &mut [u32]) -> bool {
+    if by_engine {
+        engine_fills(file, end, told);
+        return says_all(s, told);
+    }
+    model_fills(file, end, told);
+    says_all(s, told)
+}
+
+// job PLACES = refusal, traces, and every place of the list, of which PLACES are lent
+pub fn fills(s: &[u8], places: u32, file: &[u8], by_engine: bool) -> bool {
+    let mut told = unfilled();
+    told_after(s, file, 2 + wide(places), by_engine, &mut told)
+}

@@ -1,0 +1,44 @@
+// What is counted.
+use std::num::wrapping_add_u32;
+
+// Files, those without a trace and those with 16. Answers, those on which engine and model differ, lists that are not
+// as they have to be, and how often each refusal was the answer, 0 where nothing was declined. Of filled lists the
+// places that were altered, and those behind the first T that kept their former values; of the lists of declined
+// calls the places that kept theirs.
+pub struct Tally {
+    pub files: u32,
+    pub empty: u32,
+    pub full: u32,
+    pub answers: u32,
+    pub differ: u32,
+    pub wrong: u32,
+    pub seen: [u32; 17],
+    pub times: u32,
+    pub kept: u32,
+    pub unaltered: u32,
+}
+
+pub fn nothing() -> Tally {
+    Tally {
+        files: 0,
+        empty: 0,
+        full: 0,
+        answers: 0,
+        differ: 0,
+        wrong: 0,
+        seen: [0; 17],
+        times: 0,
+        kept: 0,
+        unaltered: 0,
+    }
+}
+
+// The count and n more. A count comes nowhere near to where it would wrap.
+pub fn more(count: u32, n: u32) -> u32 {
+    wrapping_add_u32(count, n)
+}
+
+// One more where it is so.
+pub fn one_more_if(count: u32, yes: bool) -> u32 {
+    wrapping_add_u32(count, yes as u32)
+}
