@@ -130,7 +130,7 @@ typedef struct {
     uint32_t refusal, accesses, time;
 } sic_time_on_bus;
 
-/* `traces` is how many the file has, and so how many places of the list are filled; 0 on a refusal, 16 too. */
+/* `traces` is how many the file has, and so how many places of the list are filled; 0 on every refusal. */
 typedef struct {
     uint32_t refusal, traces;
 } sic_whole_job;

@@ -1,9 +1,9 @@
 // The engine's answer against the second model's.
-use crate::counts::more;
-use crate::counts::one_more_if;
 use bus::bus_time;
 use model_bus::BusTime;
 use model_bus::bus_refusal;
+use random_traces::more;
+use random_traces::one_more_if;
 
 // More unknown flags have more settlings than the second model can run for every trace.
 const FEW: u32 = 4;

@@ -2,12 +2,12 @@
 // added wait from 0 to d on each missed access" (document 02, F-1).
 use crate::counts::above;
 use crate::counts::greater;
-use crate::counts::more;
-use crate::counts::one_more_if;
 use crate::rows::watch;
 use bus::bus_time;
 use random_traces::Dice;
 use random_traces::first;
+use random_traces::more;
+use random_traces::one_more_if;
 use random_traces::part;
 use timing::finish;
 ghost use Prim.Native.Nat.{_<_, _≤_};

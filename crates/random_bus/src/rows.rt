@@ -1,10 +1,10 @@
 // The engine's rows: the accesses under way in what Run gives after each number of cycles.
 use crate::counts::greater;
-use crate::counts::one_more_if;
 use machine::Slot;
 use machine::State;
 use model::Place;
 use model_bus::is_under_way;
+use random_traces::one_more_if;
 use running::run;
 ghost use Prim.Native.Nat.{_≤_};
 

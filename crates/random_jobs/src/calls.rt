@@ -3,8 +3,8 @@ use crate::lists::PLACES;
 use crate::lists::lent;
 use crate::lists::same_from;
 use crate::tally::Tally;
-use crate::tally::more;
-use crate::tally::one_more_if;
+use random_traces::more;
+use random_traces::one_more_if;
 use std::num::wrapping_sub_u32;
 use whole_job::worst_times;
 

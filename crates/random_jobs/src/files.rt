@@ -2,13 +2,13 @@
 ghost use mathlib.Core.Path.{_≡_};
 ghost use Prim.Native.Nat.{_≤_};
 ghost use lib.ListN.{length};
-use crate::tally::more;
 use job::table::ENTRY_SIZE;
 use job::table::HEADER_SIZE;
 use job::table::MAX_TRACES;
 use random_traces::Dice;
 use random_traces::Style;
 use random_traces::first;
+use random_traces::more;
 use random_traces::part;
 use random_traces::rolled;
 use random_traces::trace;

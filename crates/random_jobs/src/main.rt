@@ -18,11 +18,11 @@ use print::print;
 use random_traces::Dice;
 use random_traces::SEED;
 use random_traces::first;
+use random_traces::one_more_if;
 use random_traces::part;
 use random_traces::rolled;
 use tally::Tally;
 use tally::nothing;
-use tally::one_more_if;
 
 const FILES: u32 = 8000;
 

@@ -1,5 +1,4 @@
 // What is counted.
-use std::num::wrapping_add_u32;
 
 // Files, those without a trace and those with 16. Answers, those on which engine and model differ, lists that are not
 // as they have to be, and how often each refusal was the answer, 0 where nothing was declined. Of filled lists the
@@ -31,14 +30,4 @@ pub fn nothing() -> Tally {
         kept: 0,
         unaltered: 0,
     }
-}
-
-// The count and n more. A count comes nowhere near to where it would wrap.
-pub fn more(count: u32, n: u32) -> u32 {
-    wrapping_add_u32(count, n)
-}
-
-// One more where it is so.
-pub fn one_more_if(count: u32, yes: bool) -> u32 {
-    wrapping_add_u32(count, yes as u32)
 }

@@ -1,8 +1,11 @@
-// Random traces for programs that hold the engine against the second model: the generator, and bodies drawn from
-// it.
+// Random traces for programs that hold the engine against the second model: the generator, bodies drawn from it,
+// and what the programs count with.
+mod counts;
 mod dice;
 mod traces;
 
+pub use counts::more;
+pub use counts::one_more_if;
 pub use dice::Dice;
 pub use dice::SEED;
 pub use dice::part;
