@@ -117,14 +117,9 @@ fn bus_times_refuse_10_then_8_then_15() {
     assert_eq!((refused.refusal, refused.accesses, refused.time), (15, 0, 0));
 }
 
-/// Each place has a value of its own, which is no time.
-fn list_of(places: usize) -> Vec<u32> {
-    (0..places).map(|p| u32::MAX - p as u32).collect()
-}
-
 /// The call on a list of so many places: the refusal, or how many are filled, and the list afterwards.
 fn worst_times(file: &[u8], places: usize) -> (Result<usize, u32>, Vec<u32>) {
-    let mut times = list_of(places);
+    let mut times = job::former(places);
     (sic::worst_times(file, &mut times).map_err(Refusal::number), times)
 }
 
@@ -138,26 +133,26 @@ fn a_whole_job() {
         let (answer, times) = worst_times(&file, places);
         assert_eq!(answer, Ok(5));
         assert_eq!(times[..5], [6, 16, 0, 21, 15]);
-        assert_eq!(times[5..], list_of(places)[5..]);
+        assert_eq!(times[5..], job::former(places)[5..]);
     }
     for places in 0..5 {
-        assert_eq!(worst_times(&file, places), (Err(16), list_of(places)));
+        assert_eq!(worst_times(&file, places), (Err(16), job::former(places)));
     }
-    let refused = unsafe { sic::raw::sic_worst_times(file.as_ptr(), file.len(), list_of(4).as_mut_ptr(), 4) };
+    let refused = unsafe { sic::raw::sic_worst_times(file.as_ptr(), file.len(), job::former(4).as_mut_ptr(), 4) };
     assert_eq!((refused.refusal, refused.traces), (16, 0));
 }
 
 #[test]
 fn jobs_of_0_and_16_traces() {
     for places in [0, 1, 16] {
-        assert_eq!(worst_times(&[0, 0], places), (Ok(0), list_of(places)));
+        assert_eq!(worst_times(&[0, 0], places), (Ok(0), job::former(places)));
     }
     let bodies: Vec<Vec<u8>> = (0..16).map(|t| encode(&vec![plain(); t])).collect();
     let counts: Vec<u16> = (0..16).collect();
     let file = write(&counts, &bodies.concat(), 2000).unwrap();
     let alone: Vec<u32> = bodies.iter().map(|body| sic::best_worst(body).unwrap().worst).collect();
     assert_eq!(worst_times(&file, 16), (Ok(16), alone));
-    assert_eq!(worst_times(&file, 15), (Err(16), list_of(15)));
+    assert_eq!(worst_times(&file, 15), (Err(16), job::former(15)));
 }
 
 /// A file that Open declines, with lists that would be long enough for it and lists that would not: Open's number, and no
@@ -183,7 +178,7 @@ fn jobs_refuse_1_to_8_then_16() {
     for (file, number) in declined {
         assert_eq!(sic::open(file, 0).map_err(Refusal::number), Err(number));
         for places in [0, 2, 3, 20] {
-            assert_eq!(worst_times(file, places), (Err(number), list_of(places)));
+            assert_eq!(worst_times(file, places), (Err(number), job::former(places)));
         }
     }
     assert_eq!(worst_times(&file, 2).0, Err(16));

@@ -245,16 +245,11 @@ fn files_agree(dice: &mut Dice, records: &[u8]) {
     }
 }
 
-/// A list of so many places, each with a value of its own, which is no time.
-fn list_of(places: usize) -> Vec<u32> {
-    (0..places).map(|p| u32::MAX - p as u32).collect()
-}
-
 /// What the call answers to any file and list, and every place of the list afterwards.
 fn jobs_agree(file: &[u8], places: usize) {
-    let mut times = list_of(places);
+    let mut times = job::former(places);
     assert_eq!(sic::worst_times(file, &mut times).map_err(|r| r.number()), job::traces(file, places), "{places} places");
-    assert_eq!(times, job::list(file, &list_of(places), worst_of), "{places} places");
+    assert_eq!(times, job::list(file, &job::former(places), worst_of), "{places} places");
 }
 
 /// A job of 0 to 16 short traces, whole and damaged, with lists about as long as it has traces.

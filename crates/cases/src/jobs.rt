@@ -31,38 +31,24 @@ fn put(told: &mut [u32], at: usize, value: u32) {
     }
 }
 
-// The call on the list, which ends at an index; what it answers is put before the list.
-fn engine_fills(file: &[u8], end: usize, told: &mut [u32]) {
+// Whether the line tells all that is there after the call on the list, which ends at an index. What the call answers
+// is put before the list.
+fn told_after(s: &[u8], file: &[u8], end: usize, by_engine: bool, told: &mut [u32]) -> bool {
     if end < 2 {
-        return;
+        return false;
     }
     if end > told.len() {
-        return;
+        return false;
     }
-    let job = whole_job::worst_times(file, &mut told[2..end]);
-    put(told, 0, job.refusal);
-    put(told, 1, job.traces);
-}
-
-fn model_fills(file: &[u8], end: usize, told: &mut [u32]) {
-    if end < 2 {
-        return;
-    }
-    if end > told.len() {
-        return;
+    if by_engine {
+        let job = whole_job::worst_times(file, &mut told[2..end]);
+        put(told, 0, job.refusal);
+        put(told, 1, job.traces);
+        return says_all(s, told);
     }
     let job = model_job::worst_times(file, &mut told[2..end]);
     put(told, 0, job.refusal);
     put(told, 1, job.traces);
-}
-
-// Whether the line tells all that is there after the call.
-fn told_after(s: &[u8], file: &[u8], end: usize, by_engine: bool, told: &mut [u32]) -> bool {
-    if by_engine {
-        engine_fills(file, end, told);
-        return says_all(s, told);
-    }
-    model_fills(file, end, told);
     says_all(s, told)
 }
 

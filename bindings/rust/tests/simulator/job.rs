@@ -1,6 +1,11 @@
 //! A whole job in one call, from document 02: how many traces, and what is in the list afterwards.
 use super::*;
 
+/// A list of so many places, each with a value of its own, which is no time.
+pub fn former(places: usize) -> Vec<u32> {
+    (0..places).map(|p| u32::MAX - p as u32).collect()
+}
+
 /// "1 to 8 as in Open, then 16: the list has fewer than T places", or T.
 pub fn traces(file: &[u8], places: usize) -> Result<usize, u32> {
     match open(file, 0) {
