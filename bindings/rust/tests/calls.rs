@@ -43,6 +43,31 @@ fn a_to_l() {
     assert_eq!(sic::best_worst(&encode(&l)), Ok(sic::BestAndWorst { best: 7, worst: 21 }));
 }
 
+/// "A store waits in ID for its first source only, and in EX for its second": document 02, F-3.
+#[test]
+fn a_stores_value_is_needed_late() {
+    let into = |target, load: Instruction| Instruction { target, ..load };
+    let from = |source1, source2, i: Instruction| Instruction { source1, source2, ..i };
+    let load = memory(LOAD, MISS, 10);
+    let store = memory(STORE, HIT, 1);
+    let branch = Instruction { kind: BRANCH, ..plain() };
+    let cases: [(&str, [Instruction; 2], u32); 9] = [
+        ("its value", [into(1, load), from(0, 1, store)], 17),
+        ("a hit, then a miss", [into(1, memory(LOAD, HIT, 1)), from(0, 1, memory(STORE, MISS, 10))], 16),
+        ("its first source", [into(1, load), from(1, 0, store)], 18),
+        ("both", [into(1, load), from(1, 1, store)], 18),
+        ("neither", [into(1, load), from(0, 2, store)], 17),
+        ("register 0", [load, store], 17),
+        ("a plain one", [into(1, load), from(0, 1, plain())], 18),
+        ("a load", [into(1, load), from(0, 1, into(2, memory(LOAD, HIT, 1)))], 18),
+        ("a branch", [into(1, load), from(0, 1, branch)], 18),
+    ];
+    for (name, trace, time) in cases {
+        assert_eq!(sic::finish(&encode(&trace)), Ok(time), "{name}");
+        assert_eq!(finish(&trace), time, "{name}");
+    }
+}
+
 #[test]
 fn margins_and_limits_of_b() {
     let b = encode(&[plain()]);

@@ -3,7 +3,7 @@ use mathlib.Core.Path.{_≡_, refl, ap, _∙_}
 use native.Mathlib.Omega.{arith}
 use Rattle.machine.specs.Test.{_and_, _or_, every, none}
 use Rattle.machine.specs.Instruction.{miss, Trace}
-use Rattle.machine.specs.Rules.{next, further as furtherOn, shortOf, entry, noOlder, reads, missesData, readyIn, ready, budget, movesWithin, moves, cycle, allPre, after, allLeft}
+use Rattle.machine.specs.Rules.{next, further as furtherOn, shortOf, entry, noOlder, readsInID, readsInEX, missesData, readyIn, ready, budget, movesWithin, moves, cycle, allPre, after, allLeft}
 use Rattle.machine.specs.Time.{bound, leastFrom, finish, unknown-misses, withWaits, settleFlag, settleInstruction, settle, worst}
 use Rattle.machine.specs.Bus.{countsFetch, countsData, accessesOf, accesses, busTime, fetch-in-IF, load-in-MEM, store-in-ST, store-in-MEM}
 use Rattle.machine.specs.Cases.{cases, caseC, caseF, caseI, caseL}
@@ -23,7 +23,7 @@ use Rattle.claims.proofs.Claim.{finish-answered}
 use Rattle.claims.proofs.Bus.{time-holds}
 
 pub bus-answered : BusAnswered
-unfolding _and_ _or_ every none next furtherOn shortOf entry noOlder reads missesData readyIn ready budget movesWithin moves cycle allPre after allLeft bound leastFrom finish settle worst countsFetch countsData accessesOf accesses busTime cases _then_ _unless_ fieldsFrom breaksRules kindOf flagOf instructionOf breaksAt firsts traceOf recordOf recordBytes fieldsOf bodyOf lengthRefusal recordRefusal bodyRefusal exceeds exceedsAt waitRefusal busRefusal busAnswer
+unfolding _and_ _or_ every none next furtherOn shortOf entry noOlder readsInID readsInEX missesData readyIn ready budget movesWithin moves cycle allPre after allLeft bound leastFrom finish settle worst countsFetch countsData accessesOf accesses busTime cases _then_ _unless_ fieldsFrom breaksRules kindOf flagOf instructionOf breaksAt firsts traceOf recordOf recordBytes fieldsOf bodyOf lengthRefusal recordRefusal bodyRefusal exceeds exceedsAt waitRefusal busRefusal busAnswer
 bus-answered = refl
 
 pub long-wait-declined : LongWaitDeclined
@@ -54,7 +54,7 @@ module _
       }
 
 pub time-attained : TimeAttained
-unfolding _and_ _or_ every none next furtherOn shortOf entry noOlder reads missesData readyIn ready budget movesWithin moves cycle allPre after allLeft bound leastFrom finish withWaits settleFlag settleInstruction settle worst countsFetch countsData accessesOf accesses busTime caseC caseF caseI caseL _then_ _unless_ fieldsFrom breaksRules kindOf flagOf instructionOf breaksAt firsts traceOf recordOf recordBytes fieldsOf bodyOf lengthRefusal recordRefusal bodyRefusal exceeds exceedsAt waitRefusal busRefusal busAnswer allAtWorst
+unfolding _and_ _or_ every none next furtherOn shortOf entry noOlder readsInID readsInEX missesData readyIn ready budget movesWithin moves cycle allPre after allLeft bound leastFrom finish withWaits settleFlag settleInstruction settle worst countsFetch countsData accessesOf accesses busTime caseC caseF caseI caseL _then_ _unless_ fieldsFrom breaksRules kindOf flagOf instructionOf breaksAt firsts traceOf recordOf recordBytes fieldsOf bodyOf lengthRefusal recordRefusal bodyRefusal exceeds exceedsAt waitRefusal busRefusal busAnswer allAtWorst
 time-attained = (
   attained caseC (omega arith) refl refl,
   attained caseF (omega arith) refl refl,
@@ -63,7 +63,7 @@ time-attained = (
 )
 
 pub each-under-way : EachUnderWay
-unfolding _and_ _or_ every none next furtherOn shortOf entry noOlder reads missesData readyIn ready budget movesWithin moves cycle allPre after caseC caseF caseI
+unfolding _and_ _or_ every none next furtherOn shortOf entry noOlder readsInID readsInEX missesData readyIn ready budget movesWithin moves cycle allPre after caseC caseF caseI
 each-under-way = (
   fetch-in-IF refl refl (omega arith),
   load-in-MEM refl refl refl (omega arith),

@@ -8,10 +8,10 @@ use borrow.Author.Tests.{leb-true, le-leb, eqb-true}
 use lib.Dec.{leb, eqb}
 use Rattle.machine.specs.Test.{_and_, _or_, every, none}
 use Rattle.machine.specs.Instruction.{Trace}
-use Rattle.machine.specs.Rules.{next, further as furtherOn, shortOf, entry, noOlder, reads, missesData, readyIn, ready, budget, movesWithin, moves, cycle, allPre, after, allLeft}
+use Rattle.machine.specs.Rules.{next, further as furtherOn, shortOf, entry, noOlder, readsInID, readsInEX, missesData, readyIn, ready, budget, movesWithin, moves, cycle, allPre, after, allLeft}
 use Rattle.machine.specs.Time.{bound, leastFrom, finish, settle, best, worst}
 use Rattle.machine.specs.State.{fetchedBelow, occupantBelow, stateOf}
-use Rattle.machine.specs.Cases.{Case, cases, further, chartOfD}
+use Rattle.machine.specs.Cases.{Case, cases, further, lateValues, chartOfD}
 use Rattle.machine.proofs.Connectives.{Value, passed, failed, value, both-ways, and-l, and-r, implies}
 use Rattle.machine.proofs.Finish.{all-left-is}
 use Rattle.record.specs.Refusal.{_then_, _unless_}
@@ -89,24 +89,24 @@ map-same test f g same [] e = refl
 map-same {A} test f g same (c ∷ cs) e =
     ap₂ (λ (a : A) (rest : List A). a ∷ rest) (same c (and-l _ _ e)) (map-same test f g same cs (and-r _ _ e))
 
-cases-run : all runs (cases ++ further) ≡ true
-unfolding _and_ _or_ every none next furtherOn shortOf entry noOlder reads missesData readyIn ready budget movesWithin moves cycle allPre after allLeft bound leastFrom finish cases further _then_ _unless_ fieldsFrom breaksRules hasUnknown breaksAt unknownAt recordOf recordBytes fieldsOf bodyOf lengthRefusal recordRefusal unknownRefusal bodyRefusal settledRefusal known refusalOf runs all
+cases-run : all runs (cases ++ further ++ lateValues) ≡ true
+unfolding _and_ _or_ every none next furtherOn shortOf entry noOlder readsInID readsInEX missesData readyIn ready budget movesWithin moves cycle allPre after allLeft bound leastFrom finish cases further lateValues _then_ _unless_ fieldsFrom breaksRules hasUnknown breaksAt unknownAt recordOf recordBytes fieldsOf bodyOf lengthRefusal recordRefusal unknownRefusal bodyRefusal settledRefusal known refusalOf runs all
 cases-run = refl
 
-cases-margin : all margins (cases ++ further) ≡ true
-unfolding _and_ _or_ every none next furtherOn shortOf entry noOlder reads missesData readyIn ready budget movesWithin moves cycle allPre after allLeft bound leastFrom finish settle worst cases further _then_ _unless_ fieldsFrom breaksRules breaksAt recordOf recordBytes fieldsOf bodyOf lengthRefusal recordRefusal bodyRefusal margins all
+cases-margin : all margins (cases ++ further ++ lateValues) ≡ true
+unfolding _and_ _or_ every none next furtherOn shortOf entry noOlder readsInID readsInEX missesData readyIn ready budget movesWithin moves cycle allPre after allLeft bound leastFrom finish settle worst cases further lateValues _then_ _unless_ fieldsFrom breaksRules breaksAt recordOf recordBytes fieldsOf bodyOf lengthRefusal recordRefusal bodyRefusal margins all
 cases-margin = refl
 
 pub cases-answered : CasesAnswered
-unfolding _and_ _or_ every none next furtherOn shortOf entry noOlder reads missesData readyIn ready budget movesWithin moves cycle allPre after allLeft bound leastFrom finish settle best worst cases further _then_ _unless_ fieldsFrom breaksRules hasUnknown kindOf flagOf instructionOf breaksAt unknownAt firsts traceOf recordOf recordBytes fieldsOf bodyOf lengthRefusal recordRefusal unknownRefusal bodyRefusal settledRefusal known refusalOf finishAnswer bestWorstAnswer finishOf bestWorstOf
+unfolding _and_ _or_ every none next furtherOn shortOf entry noOlder readsInID readsInEX missesData readyIn ready budget movesWithin moves cycle allPre after allLeft bound leastFrom finish settle best worst cases further lateValues _then_ _unless_ fieldsFrom breaksRules hasUnknown kindOf flagOf instructionOf breaksAt unknownAt firsts traceOf recordOf recordBytes fieldsOf bodyOf lengthRefusal recordRefusal unknownRefusal bodyRefusal settledRefusal known refusalOf finishAnswer bestWorstAnswer finishOf bestWorstOf
 cases-answered =
     record {
       finish = refl;
       bestWorst = refl;
-      run = λ limit. map-same runs _ _ (λ c e. run-tested c e limit) (cases ++ further) cases-run;
-      margin = λ deadline. map-same margins _ _ (λ c e. margin-tested c e deadline) (cases ++ further) cases-margin;
+      run = λ limit. map-same runs _ _ (λ c e. run-tested c e limit) (cases ++ further ++ lateValues) cases-run;
+      margin = λ deadline. map-same margins _ _ (λ c e. margin-tested c e deadline) (cases ++ further ++ lateValues) cases-margin;
     }
 
 pub chart-answered : ChartAnswered
-unfolding _and_ _or_ every none next furtherOn shortOf entry noOlder reads missesData readyIn ready budget movesWithin moves cycle allPre after allLeft bound leastFrom finish fetchedBelow occupantBelow stateOf chartOfD _then_ _unless_ fieldsFrom breaksRules hasUnknown kindOf flagOf instructionOf breaksAt unknownAt firsts traceOf lengthRefusal recordRefusal unknownRefusal bodyRefusal settledRefusal ranFor runAnswer
+unfolding _and_ _or_ every none next furtherOn shortOf entry noOlder readsInID readsInEX missesData readyIn ready budget movesWithin moves cycle allPre after allLeft bound leastFrom finish fetchedBelow occupantBelow stateOf chartOfD _then_ _unless_ fieldsFrom breaksRules hasUnknown kindOf flagOf instructionOf breaksAt unknownAt firsts traceOf lengthRefusal recordRefusal unknownRefusal bodyRefusal settledRefusal ranFor runAnswer
 chart-answered = refl

@@ -7,7 +7,7 @@ use lib.Dec.{leb}
 use lib.IntN.{pos, _-ℤ_}
 use Rattle.machine.specs.Rules.{after}
 use Rattle.machine.specs.State.{start, stateOf}
-use Rattle.machine.specs.Cases.{Case, cases, further, chartOfD}
+use Rattle.machine.specs.Cases.{Case, cases, further, lateValues, chartOfD}
 use Rattle.record.specs.Body.{firsts}
 use Rattle.encoding.specs.Encoding.{bodyOf}
 use Rattle.encoding.specs.Cases.{bytesOfD, known, refusalOf}
@@ -51,9 +51,10 @@ pub record Answered (table : List Case) : Type 0 where
   pub run : (limit : ℕ) → map (λ c. runAnswer (bodyOf (c .trace)) limit) table ≡ map (λ c. runOf c limit) table
   pub margin : (deadline : ℕ) → map (λ c. marginAnswer (bodyOf (c .trace)) deadline) table ≡ map (λ c. marginOf c deadline) table
 
--- "Proved: A to L", and the cases that they do not show. Were every body refused, the claims over accepted bodies would hold and say nothing.
+-- "Proved: A to L", and the cases that they do not show, those of document 02, F-3, among them. Were every body refused, the claims over accepted
+-- bodies would hold and say nothing.
 abbrev pub CasesAnswered : Type 0
-CasesAnswered = Answered (cases ++ further)
+CasesAnswered = Answered (cases ++ further ++ lateValues)
 
 -- D's chart, row by row, is what Run gives for the bytes that document 01 prints.
 abbrev pub ChartAnswered : Type 0

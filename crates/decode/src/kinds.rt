@@ -1,6 +1,16 @@
 // Kinds and flags by name, and what the rules ask of them.
 ghost use mathlib.Core.Path.{_≡_};
-ghost use Rattle.machine.specs.Rules.{isLoad, isStore, holdsFetches, hits, misses, reads, missesData};
+ghost use Rattle.machine.specs.Rules.{
+  isLoad,
+  isStore,
+  holdsFetches,
+  hits,
+  misses,
+  carries,
+  readsInID,
+  readsInEX,
+  missesData,
+};
 ghost use Rattle.record.specs.Rules.{instructionOf};
 use record::Fields;
 
@@ -66,9 +76,23 @@ pub fn misses_data(f: Fields) -> bool
     (is_load(f) | is_store(f)) & access_misses(f)
 }
 
-// Whether a register other than 0 is one of its sources.
-pub fn reads(f: Fields, register: u32) -> bool
-    ensures { λ r. ⌜ r ≡ reads (instructionOf f) register ⌝ }
+// Whether a source is this register, which carries nothing if it is register 0.
+fn carries(source: u32, register: u32) -> bool
+    ensures { λ r. ⌜ r ≡ carries source register ⌝ }
 {
-    (register != 0) & ((f.source1 == register) | (f.source2 == register))
+    (register != 0) & (source == register)
+}
+
+// Whether it needs a register in ID: its sources, but for a store's second, the value to be stored.
+pub fn reads_in_id(f: Fields, register: u32) -> bool
+    ensures { λ r. ⌜ r ≡ readsInID (instructionOf f) register ⌝ }
+{
+    carries(f.source1, register) | (!is_store(f) & carries(f.source2, register))
+}
+
+// Whether it needs a register only in EX, on the way into MEM: the value to be stored.
+pub fn reads_in_ex(f: Fields, register: u32) -> bool
+    ensures { λ r. ⌜ r ≡ readsInEX (instructionOf f) register ⌝ }
+{
+    is_store(f) & carries(f.source2, register)
 }

@@ -10,7 +10,8 @@ use crate::kinds::holds_fetches;
 use crate::kinds::is_load;
 use crate::kinds::is_store;
 use crate::kinds::misses_data;
-use crate::kinds::reads;
+use crate::kinds::reads_in_ex;
+use crate::kinds::reads_in_id;
 use machine::stage::EX;
 use machine::stage::ID;
 use machine::stage::MEM;
@@ -52,10 +53,10 @@ pub fn waits_for(stage: u32, i: Fields, j: Fields) -> bool
         return holds_fetches(j) | !fetch_hits(i);
     }
     if stage == ID {
-        return is_load(j) & reads(i, j.target);
+        return is_load(j) & reads_in_id(i, j.target);
     }
     if stage == EX {
-        return is_store(j) & misses_data(i);
+        return (is_store(j) & misses_data(i)) | (is_load(j) & reads_in_ex(i, j.target));
     }
     false
 }

@@ -4,7 +4,7 @@ use mathlib.Core.Bool.{Bool, cond}
 use mathlib.Core.Path.{_≡_, _∙_}
 use native.Mathlib.Omega.{arith}
 use Rattle.machine.specs.Instruction.{Instruction}
-use Rattle.machine.specs.Rules.{IF, EX, MEM, isStore, hits, entry, reads, missesData}
+use Rattle.machine.specs.Rules.{IF, EX, MEM, isStore, hits, entry, readsInID, missesData}
 use Rattle.machine.proofs.Window.{enterIF, enterID, enterEX, enterMEM, enterLast}
 use Rattle.record.specs.declared.layout.Fields.{Fields}
 use Rattle.record.specs.Rules.{instructionOf}
@@ -39,7 +39,7 @@ module _ (f : Fields) where
 
     pub EX-step
         : (from : ℕ) {free r : ℕ} {needed : Bool} →
-        needed ≡ reads i (w .«load_target») →
+        needed ≡ readsInID i (w .«load_target») →
         free ≡ cond needed (w .last) (w .MEM) →
         r ≡ max (from + 1) free →
         r ≡ enterEX (windowOf w) i from

@@ -23,7 +23,7 @@ use decode::cycles_in_last;
 use decode::fetch_hits;
 use decode::is_store;
 use decode::later;
-use decode::reads;
+use decode::reads_in_id;
 use record::Fields;
 
 // What a pass remembers of the instructions so far.
@@ -66,11 +66,12 @@ pub fn enter_ex(w: Window, f: Fields, from: u32) -> u32
     requires { ⌜ from + 1 < 2 ^ 32 ⌝ }
     ensures { λ r. ⌜ r ≡ enterEX (windowOf w) (instructionOf f) from ⌝ }
 {
-    let free = choose(reads(f, w.load_target), w.last, w.MEM);
+    let free = choose(reads_in_id(f, w.load_target), w.last, w.MEM);
     later(from + 1, free)
 }
 
-// An access that misses is a load's or a store's, by the record rules.
+// An access that misses is a load's or a store's, by the record rules. A store's second source is
+// not asked for: its load, if it is not done, keeps MEM busy (`value-in-time`).
 pub fn enter_mem(w: Window, f: Fields, from: u32) -> u32
     requires { ⌜ (from + entry (instructionOf f) EX + 1 < 2 ^ 32) × AccessLawful (instructionOf f) ⌝ }
     ensures { λ r. ⌜ r ≡ enterMEM (windowOf w) (instructionOf f) from ⌝ }

@@ -5,7 +5,7 @@ use mathlib.Core.Bool.{Bool, true, false, not, cond, false≢true}
 use mathlib.Core.Path.{_≡_, refl, sym, _∙_}
 use Rattle.machine.specs.Test.{_and_, _or_, none}
 use Rattle.machine.specs.Instruction.{Kind, Instruction, Trace, instruction}
-use Rattle.machine.specs.Rules.{Stage, pre, IF, ID, EX, MEM, ST, WB, post, same, Place, Places, shortOf, isLoad, isStore, holdsFetches, hits, noOlder, reads, missesData, readyIn}
+use Rattle.machine.specs.Rules.{Stage, pre, IF, ID, EX, MEM, ST, WB, post, same, Place, Places, shortOf, isLoad, isStore, holdsFetches, hits, noOlder, readsInID, readsInEX, missesData, readyIn}
 use Rattle.machine.proofs.Connectives.{and-true, and-false, or-false, none-either, none-unless, none-same, none-false, not-or-none}
 use Rattle.machine.proofs.Doing.{Does, holding, loading, storing, nothing, does}
 
@@ -49,8 +49,8 @@ pending kind p = pendingTo (goal kind) p
 unfoldable pub waitsFor : Stage → Instruction → Instruction → Bool
 waitsFor pre i j = holdsFetches (j .kind) or not (hits (i .fetch))
 waitsFor IF i j = false
-waitsFor ID i j = isLoad (j .kind) and reads i (j .target)
-waitsFor EX i j = isStore (j .kind) and missesData i
+waitsFor ID i j = isLoad (j .kind) and readsInID i (j .target)
+waitsFor EX i j = (isStore (j .kind) and missesData i) or (isLoad (j .kind) and readsInEX i (j .target))
 waitsFor MEM i j = false
 waitsFor ST i j = false
 waitsFor WB i j = false
@@ -93,16 +93,18 @@ in-ID loading p read = refl
 in-ID storing p read = sym (and-false (shortOf p ST 0))
 in-ID holding p read = sym (and-false (shortOf p EX 0))
 
-in-EX : {h l s : Bool} → Does h l s → (p : Place) (misses : Bool) → misses and (s and shortOf p ST 0) ≡ pendingTo (goalOf h l s) p and (s and misses)
-unfolding _and_
-in-EX nothing p true = refl
-in-EX nothing p false = refl
-in-EX loading p true = sym (and-false (shortOf p MEM 0))
-in-EX loading p false = sym (and-false (shortOf p MEM 0))
-in-EX storing p true = sym (and-true (shortOf p ST 0))
-in-EX storing p false = sym (and-false (shortOf p ST 0))
-in-EX holding p true = sym (and-false (shortOf p EX 0))
-in-EX holding p false = sym (and-false (shortOf p EX 0))
+in-EX :
+    {h l s : Bool} → Does h l s → (p : Place) (misses read : Bool) →
+    (misses and (s and shortOf p ST 0)) or (l and shortOf p MEM 0 and read) ≡ pendingTo (goalOf h l s) p and ((s and misses) or (l and read))
+unfolding _and_ _or_
+in-EX nothing p true read = refl
+in-EX nothing p false read = refl
+in-EX loading p true read = refl
+in-EX loading p false read = refl
+in-EX storing p true read = or-false (shortOf p ST 0) ∙ sym (and-true (shortOf p ST 0))
+in-EX storing p false read = sym (and-false (shortOf p ST 0))
+in-EX holding p true read = sym (and-false (shortOf p EX 0))
+in-EX holding p false read = sym (and-false (shortOf p EX 0))
 
 gather : (h : Bool) (a c l s : ℕ → Bool) (n : ℕ) →
     none a n and none c n and (h or (none l n and none s n)) ≡ none (λ k. a k or c k or (not h and (l k or s k))) n
@@ -134,7 +136,9 @@ module _ (trace : Trace) (places : Places) (i : ℕ) where
       ∙ none-same _ _ i (λ j l. in-pre (does (kind j)) (places j) (hits (instruction trace i .fetch)) (same (places j .stage) pre))
   ready-holds IF = never _
   ready-holds ID = none-same _ _ i (λ j l. in-ID (does (kind j)) (places j) _)
-  ready-holds EX = not-or-none _ _ i ∙ none-same _ _ i (λ j l. in-EX (does (kind j)) (places j) _)
+  ready-holds EX =
+      rw (not-or-none (missesData (instruction trace i)) (λ j. isStore (kind j) and shortOf (places j) ST 0) i)
+      (none-either _ _ i ∙ none-same _ _ i (λ j l. in-EX (does (kind j)) (places j) _ _))
   ready-holds MEM = never _
   ready-holds ST = never _
   ready-holds WB = never _

@@ -9,6 +9,7 @@ pub mod Doing
 pub mod Hazards
 pub mod BySlots
 pub mod Ready
+pub mod LateValue
 pub mod Moving
 pub mod Flow
 pub mod StepOrderly

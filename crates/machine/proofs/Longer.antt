@@ -8,7 +8,7 @@ use native.Mathlib.Omega.{arith}
 use lib.ListN.{length}
 use Rattle.machine.specs.Test.{_and_}
 use Rattle.machine.specs.Instruction.{Instruction, Trace, instruction}
-use Rattle.machine.specs.Rules.{Stage, pre, IF, ID, EX, MEM, ST, WB, post, misses, reads, missesData}
+use Rattle.machine.specs.Rules.{Stage, pre, IF, ID, EX, MEM, ST, WB, post, misses, readsInID, readsInEX, missesData}
 use Rattle.machine.specs.Order.{SlowerInstruction, Slower, slower-none, slower-more, SameFlags, same-none, same-more, added}
 use Rattle.machine.specs.Claims.{AddedAtMost}
 use Rattle.machine.proofs.Numbers.{by-age, greatest-le, sum, sum-grows, sum-first}
@@ -138,11 +138,11 @@ added-at-most-counts (slower-more {a} {b} {first} {second} h hs) (same-more f g 
 -- with equal flags, equal waits
 waiting-alike : (k : Stage) (i j older elder : Instruction) → SlowerInstruction i j → SlowerInstruction older elder → j .fetch ≡ i .fetch → j .access ≡ i .access →
     waitsFor k j elder ≡ waitsFor k i older
-unfolding waitsFor reads missesData
+unfolding waitsFor readsInID readsInEX missesData
 waiting-alike pre i j older elder h o f g = rw (o .kind, f)
 waiting-alike IF i j older elder h o f g = refl
-waiting-alike ID i j older elder h o f g = rw (o .kind, o .target, h .source1, h .source2)
-waiting-alike EX i j older elder h o f g = rw (o .kind, h .kind, g)
+waiting-alike ID i j older elder h o f g = rw (o .kind, o .target, h .kind, h .source1, h .source2)
+waiting-alike EX i j older elder h o f g = rw (o .kind, o .target, h .kind, h .source2, g)
 waiting-alike MEM i j older elder h o f g = refl
 waiting-alike ST i j older elder h o f g = refl
 waiting-alike WB i j older elder h o f g = refl

@@ -7,7 +7,7 @@ use native.Mathlib.Omega.{arith}
 use lib.ListN.{length}
 use Rattle.machine.specs.Test.{_and_, _or_}
 use Rattle.machine.specs.Instruction.{Kind, Flag, Instruction, Trace, blank, instruction}
-use Rattle.machine.specs.Rules.{Stage, pre, IF, ID, EX, MEM, ST, WB, post, rank, isLoad, isStore, holdsFetches, misses, hits, entry, reads, missesData}
+use Rattle.machine.specs.Rules.{Stage, pre, IF, ID, EX, MEM, ST, WB, post, rank, isLoad, isStore, holdsFetches, misses, hits, entry, readsInID, readsInEX, missesData}
 use Rattle.machine.specs.Order.{FlagTo, hit-hit, hit-miss, miss-miss, SlowerInstruction, Slower, slower-none, slower-more}
 use Rattle.machine.specs.Claims.{Ordered}
 use Rattle.machine.proofs.Levels.{stageAlong}
@@ -51,21 +51,23 @@ fetch-waits false hit-hit e = e
 fetch-waits false hit-miss e = refl
 fetch-waits false miss-miss e = e
 
-access-waits : {f g : Flag} (s x : Bool) → FlagTo f g → s and (x and misses f) ≡ true → s and (x and misses g) ≡ true
-unfolding _and_
-access-waits s x hit-hit e = e
-access-waits true true hit-miss e = refl
-access-waits true false hit-miss e = e
-access-waits false x hit-miss e = e
-access-waits s x miss-miss e = e
+access-waits : {f g : Flag} (s x r : Bool) → FlagTo f g → (s and (x and misses f)) or r ≡ true → (s and (x and misses g)) or r ≡ true
+unfolding _and_ _or_
+access-waits s x r hit-hit e = e
+access-waits true true r hit-miss e = refl
+access-waits true false r hit-miss e = e
+access-waits false x r hit-miss e = e
+access-waits s x r miss-miss e = e
 
 waiting-rises : (k : Stage) (i j older elder : Instruction) → SlowerInstruction i j → SlowerInstruction older elder →
     waitsFor k i older ≡ true → waitsFor k j elder ≡ true
-unfolding waitsFor reads missesData
+unfolding waitsFor readsInID readsInEX missesData
 waiting-rises pre i j older elder h o e = rw (o .kind) (fetch-waits (holdsFetches (older .kind)) (h .fetch) e)
 waiting-rises IF i j older elder h o e = e
-waiting-rises ID i j older elder h o e = rw (o .kind, o .target, h .source1, h .source2) e
-waiting-rises EX i j older elder h o e = rw (o .kind, h .kind) (access-waits (isStore (older .kind)) (isLoad (i .kind) or isStore (i .kind)) (h .access) e)
+waiting-rises ID i j older elder h o e = rw (o .kind, o .target, h .kind, h .source1, h .source2) e
+waiting-rises EX i j older elder h o e =
+    rw (o .kind, o .target, h .kind, h .source2)
+    (access-waits (isStore (older .kind)) (isLoad (i .kind) or isStore (i .kind)) _ (h .access) e)
 waiting-rises MEM i j older elder h o e = e
 waiting-rises ST i j older elder h o e = e
 waiting-rises WB i j older elder h o e = e

@@ -128,7 +128,7 @@ module _ (trace : Trace) (s : State) (o : Orderly trace s) where
   counts post f h = clash f refl
 
   -- the further slot holds the older instruction
-  further-older : (a b : Stage) → slot s a .filled ≡ true → slot s b .filled ≡ true → rank a < rank b → slot s b .index < slot s a .index
+  pub further-older : (a b : Stage) → slot s a .filled ≡ true → slot s b .filled ≡ true → rank a < rank b → slot s b .index < slot s a .index
   further-older a b f g h =
       let last = inside-rank b (slot-inside s b g) in
       let below = under b g in

@@ -1,25 +1,25 @@
 -- When an instruction enters the stages after IF: of the older ones, the closed form needs only the one directly before (and its target, if it is a
 -- load) and the last store.
 use Prim.Native.Nat.{ℕ, zero, suc, _+_, _≤_, _<_, max}
-use mathlib.Core.Bool.{Bool, true, false, cond, false≢true}
+use mathlib.Core.Bool.{Bool, true, false, not, cond, false≢true}
 use mathlib.Core.Path.{_≡_, refl, sym, subst, _∙_}
 use native.Mathlib.Nat.{le-antisymm, max-le}
 use native.Mathlib.Omega.{arith}
-use Rattle.machine.specs.Test.{_and_}
+use Rattle.machine.specs.Test.{_and_, _or_}
 use Rattle.machine.specs.Instruction.{Instruction, Trace, instruction}
-use Rattle.machine.specs.Rules.{IF, EX, MEM, isLoad, isStore, entry, reads, missesData}
+use Rattle.machine.specs.Rules.{IF, EX, MEM, rank, isLoad, isStore, entry, readsInID, missesData}
 use Rattle.machine.proofs.Numbers.{Last, below, at, last}
-use Rattle.machine.proofs.Connectives.{Value, passed, failed, value, clash, and-l, and-r, and-both}
+use Rattle.machine.proofs.Connectives.{Value, passed, failed, value, clash, and-l, and-r, and-both, and-false, or-l, or-else}
 use Rattle.machine.proofs.Schedule.{Behaviour, shares, Together, early, late, together, shares-last, enters, done, own, share, wait, least}
 use Rattle.machine.proofs.Doing.{Does, holding, loading, storing, nothing, does}
-use Rattle.machine.proofs.Hazards.{load-goal, store-goal, waitsFor}
+use Rattle.machine.proofs.Hazards.{goal, load-goal, store-goal, waitsFor}
 use Rattle.machine.proofs.Derivation.{waits, waits-for, waits-within, countAt, last-count, behaviour}
 use Rattle.machine.proofs.Dominance.{previous, le-previous, previous-le, share-early, lastDone, last-done-le}
 use Rattle.machine.proofs.FetchTime.{loads, stores, load-done, store-done, done-pre}
 
-reads-zero : (i : Instruction) → reads i 0 ≡ false
-unfolding reads _and_
-reads-zero i = refl
+pub reads-zero : (i : Instruction) → readsInID i 0 ≡ false
+unfolding readsInID _and_ _or_
+reads-zero i = and-false (not (isStore (i .kind)))
 
 pub no-count-in-WB : (i : Instruction) → isStore (i .kind) ≡ false → countAt i 5 ≡ 0
 no-count-in-WB i e = last-count i (isStore (i .kind)) ∙ rw e
@@ -52,28 +52,28 @@ module _ (trace : Trace) where
   targetBefore (suc k) = cond (isLoad (instruction trace k .kind)) (instruction trace k .target) 0
 
   -- only a load directly before matters: one further back has left MEM by the time that the one directly before enters it
-  older-load : (k j : ℕ) → j < k → isLoad (instruction trace j .kind) ≡ true → reads (instruction trace k) (instruction trace j .target) ≡ true →
-      done b j 4 ≤ max (previous b k 4) (cond (reads (instruction trace k) (targetBefore k)) (loads trace k) 0)
+  older-load : (k j : ℕ) → j < k → isLoad (instruction trace j .kind) ≡ true → readsInID (instruction trace k) (instruction trace j .target) ≡ true →
+      done b j 4 ≤ max (previous b k 4) (cond (readsInID (instruction trace k) (targetBefore k)) (loads trace k) 0)
   unfolding previous targetBefore
   older-load zero j l e f = absurd (omega arith)
   older-load (suc k) j l e f = pick (last j k l)
     where
       pick : Last j k → done b j 4
-          ≤ max (enters b k 4) (cond (reads (instruction trace (suc k)) (cond (isLoad (instruction trace k .kind)) (instruction trace k .target) 0)) (loads trace (suc k)) 0)
+          ≤ max (enters b k 4) (cond (readsInID (instruction trace (suc k)) (cond (isLoad (instruction trace k .kind)) (instruction trace k .target) 0)) (loads trace (suc k)) 0)
       pick (below h) = let p = own b j 4 in let q = share-early b k j 4 h (omega arith) (omega arith) in omega arith
       pick (at h) =
           let g : isLoad (instruction trace k .kind) ≡ true = subst (λ (x : ℕ). isLoad (instruction trace x .kind) ≡ true) h e in
-          let r : reads (instruction trace (suc k)) (instruction trace k .target) ≡ true = subst (λ (x : ℕ). reads (instruction trace (suc k)) (instruction trace x .target) ≡ true) h f in
+          let r : readsInID (instruction trace (suc k)) (instruction trace k .target) ≡ true = subst (λ (x : ℕ). readsInID (instruction trace (suc k)) (instruction trace x .target) ≡ true) h f in
           let p = load-done trace (suc k) j l e in
           rw g (rw r (omega arith))
 
-  load-directly-before : (k : ℕ) → cond (reads (instruction trace k) (targetBefore k)) (loads trace k) 0 ≤ enters b k 3
+  load-directly-before : (k : ℕ) → cond (readsInID (instruction trace k) (targetBefore k)) (loads trace k) 0 ≤ enters b k 3
   unfolding targetBefore loads lastDone behaviour waitsFor
   load-directly-before zero = rw (reads-zero (instruction trace 0)) (omega arith)
-  load-directly-before (suc k) = pick (value (isLoad (instruction trace k .kind))) (value (reads (instruction trace (suc k)) (instruction trace k .target)))
+  load-directly-before (suc k) = pick (value (isLoad (instruction trace k .kind))) (value (readsInID (instruction trace (suc k)) (instruction trace k .target)))
     where
-      pick : Value (isLoad (instruction trace k .kind)) → Value (reads (instruction trace (suc k)) (instruction trace k .target)) →
-          cond (reads (instruction trace (suc k)) (cond (isLoad (instruction trace k .kind)) (instruction trace k .target) 0)) (loads trace (suc k)) 0 ≤ enters b (suc k) 3
+      pick : Value (isLoad (instruction trace k .kind)) → Value (readsInID (instruction trace (suc k)) (instruction trace k .target)) →
+          cond (readsInID (instruction trace (suc k)) (cond (isLoad (instruction trace k .kind)) (instruction trace k .target) 0)) (loads trace (suc k)) 0 ≤ enters b (suc k) 3
       pick (passed e) (passed f) =
           rw e
           (rw f
@@ -85,7 +85,7 @@ module _ (trace : Trace) where
 
   after-load : (k : ℕ) →
       enters b k 3
-      ≡ max (max (enters b k 2 + 1) (previous b k 4)) (cond (reads (instruction trace k) (targetBefore k)) (loads trace k) 0)
+      ≡ max (max (enters b k 2 + 1) (previous b k 4)) (cond (readsInID (instruction trace k) (targetBefore k)) (loads trace k) 0)
   unfolding behaviour waitsFor done entry
   after-load k =
       le-antisymm
@@ -110,8 +110,25 @@ module _ (trace : Trace) where
       (last-done-le b (λ j. isStore (instruction trace j .kind)) 5 k (enters b k 4)
       (λ j l f.
       subst (λ (x : ℕ). done b j x ≤ enters b k 4)
-      (waits-for 3 (instruction trace k) (instruction trace j) (and-both _ _ f e) (store-goal (instruction trace j .kind) f))
+      (waits-for 3 (instruction trace k) (instruction trace j) (or-l _ _ (and-both _ _ f e)) (store-goal (instruction trace j .kind) f))
       (wait b k j 3 l)))
+
+  -- A load short of (MEM, 0) keeps MEM busy: every older instruction is done there before the one directly before leaves it. So a store's wait for
+  -- its second source never decides when it enters MEM; of the cycles from any orderly state, `value-never-decides` says the same.
+  value-in-time : (k j : ℕ) → j < k → done b j 4 ≤ previous b k 5
+  value-in-time k j l = omega (arith, own b j 4, le-previous b k j 4 l (omega arith) (omega arith))
+
+  -- in EX it waits for an older store, if its access misses, or for the load of its value
+  waited-in-EX : (k j : ℕ) → j < k → waitsFor EX (instruction trace k) (instruction trace j) ≡ true →
+      Value (isStore (instruction trace j .kind) and missesData (instruction trace k)) →
+      done b j (rank (goal (instruction trace j .kind))) ≤ max (previous b k 5) (cond (missesData (instruction trace k)) (stores trace k) 0)
+  unfolding waitsFor
+  waited-in-EX k j l w (passed e) =
+      rw (store-goal (instruction trace j .kind) (and-l _ _ e), and-r _ _ e)
+      (let p = store-done trace k j l (and-l _ _ e) in omega arith)
+  waited-in-EX k j l w (failed e) =
+      rw (load-goal (instruction trace j .kind) (and-l _ _ (or-else _ _ w e)))
+      (let p = value-in-time k j l in omega arith)
 
   pub at-MEM : (k : ℕ) →
       enters b k 4
@@ -124,9 +141,7 @@ module _ (trace : Trace) where
       (λ j l e. let p = le-previous b k j 4 l (omega arith) (omega arith) in omega arith)
       (λ j l.
       waits-within 3 (instruction trace k) (instruction trace j) (done b j) _ (let p = done-pre b j in omega arith)
-      (λ w.
-      rw (store-goal (instruction trace j .kind) (and-l _ _ w), and-r _ _ w)
-      (let p = store-done trace k j l (and-l _ _ w) in omega arith))))
+      (λ w. let p = waited-in-EX k j l w (value (isStore (instruction trace j .kind) and missesData (instruction trace k))) in omega arith)))
       (max-le
       (max-le (own b k 3) (previous-le b k 4 (omega arith) (omega arith)))
       (miss-waits k (value (missesData (instruction trace k)))))
@@ -192,7 +207,7 @@ module _ (trace : Trace) where
       subst (λ (t : Bool). enters b k 5 ≡ max (enters b k 4 + entry (instruction trace k) MEM + 1) (cond t (stores trace k) 0)) (load-no-store (does (instruction trace k .kind)) e) (at-last k) in
       omega arith
 
-  load-before : (k : ℕ) → reads (instruction trace k) (targetBefore k) ≡ true → loads trace k ≡ previous b k 5
+  load-before : (k : ℕ) → readsInID (instruction trace k) (targetBefore k) ≡ true → loads trace k ≡ previous b k 5
   unfolding targetBefore loads lastDone previous
   load-before zero e = clash e (reads-zero (instruction trace 0))
   load-before (suc k) e = pick (value (isLoad (instruction trace k .kind)))
@@ -202,7 +217,7 @@ module _ (trace : Trace) where
       pick (passed l) = rw l (sym (load-enters-WB k l))
       pick (failed l) =
           clash
-          (subst (λ (t : Bool). reads (instruction trace (suc k)) (cond t (instruction trace k .target) 0) ≡ true) l e)
+          (subst (λ (t : Bool). readsInID (instruction trace (suc k)) (cond t (instruction trace k .target) 0) ≡ true) l e)
           (reads-zero (instruction trace (suc k)))
 
   MEM-first : (k : ℕ) → previous b k 4 ≤ previous b k 5
@@ -211,11 +226,11 @@ module _ (trace : Trace) where
   MEM-first (suc k) = omega (arith, own b k 4)
 
   pub at-EX : (k : ℕ) →
-      enters b k 3 ≡ max (enters b k 2 + 1) (cond (reads (instruction trace k) (targetBefore k)) (previous b k 5) (previous b k 4))
-  at-EX k = pick (value (reads (instruction trace k) (targetBefore k)))
+      enters b k 3 ≡ max (enters b k 2 + 1) (cond (readsInID (instruction trace k) (targetBefore k)) (previous b k 5) (previous b k 4))
+  at-EX k = pick (value (readsInID (instruction trace k) (targetBefore k)))
     where
-      pick : Value (reads (instruction trace k) (targetBefore k)) →
-          enters b k 3 ≡ max (enters b k 2 + 1) (cond (reads (instruction trace k) (targetBefore k)) (previous b k 5) (previous b k 4))
+      pick : Value (readsInID (instruction trace k) (targetBefore k)) →
+          enters b k 3 ≡ max (enters b k 2 + 1) (cond (readsInID (instruction trace k) (targetBefore k)) (previous b k 5) (previous b k 4))
       pick (passed e) =
           rw e
           (omega (

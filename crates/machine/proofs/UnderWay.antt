@@ -77,7 +77,7 @@ module _ (trace : Trace) (t : ℕ) where
   unfolding behaviour waitsFor
   data-waits i j l m o =
       subst (λ (s : ℕ). done b j s ≤ enters b i 4)
-      (waits-for 3 (instruction trace i) (instruction trace j) (and-both _ _ o m) (store-goal (instruction trace j .kind) o))
+      (waits-for 3 (instruction trace i) (instruction trace j) (or-l _ _ (and-both _ _ o m)) (store-goal (instruction trace j .kind) o))
       (wait b i j 3 l)
 
   apart : (i j : ℕ) → j < i → {a c : Access} → Within j a → Within i c → ⊥

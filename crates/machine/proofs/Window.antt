@@ -5,7 +5,7 @@ use Prim.Native.Nat.{ℕ, zero, suc, _+_, _-_, max}
 use mathlib.Core.Bool.{cond}
 use lib.Dec.{ltb}
 use Rattle.machine.specs.Instruction.{Instruction, Trace, instruction}
-use Rattle.machine.specs.Rules.{pre, IF, ID, EX, MEM, ST, WB, post, Place, isLoad, isStore, holdsFetches, hits, entry, reads, missesData}
+use Rattle.machine.specs.Rules.{pre, IF, ID, EX, MEM, ST, WB, post, Place, isLoad, isStore, holdsFetches, hits, entry, readsInID, missesData}
 
 -- Times are numbers of cycles from the start; 0 stands for none.
 pub record Window : Type 0 where
@@ -44,8 +44,9 @@ enterID w i atIF = max (atIF + entry i IF + 1) (w .EX)
 
 -- a load directly before is done in MEM when it enters WB
 unfoldable pub enterEX : Window → Instruction → ℕ → ℕ
-enterEX w i atID = max (atID + 1) (cond (reads i (w .loadTarget)) (w .last) (w .MEM))
+enterEX w i atID = max (atID + 1) (cond (readsInID i (w .loadTarget)) (w .last) (w .MEM))
 
+-- a store's second source is not asked for: its load, if it is not done, keeps MEM busy (`value-in-time`)
 unfoldable pub enterMEM : Window → Instruction → ℕ → ℕ
 enterMEM w i atEX = max (max (atEX + entry i EX + 1) (w .last)) (cond (missesData i) (w .storeDone) 0)
 

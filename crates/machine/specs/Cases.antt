@@ -1,4 +1,4 @@
--- "Charts worked by hand": A to L as data, and the test that each has the finishing times that document 01 gives.
+-- "Charts worked by hand": A to L as data, and the test that each has the finishing times that document 01 gives; then what document 02 amends.
 use Prim.Native.Nat.{ℕ, zero, suc}
 use mathlib.Core.Bool.{Bool, true}
 use mathlib.Core.List.{List, [], _∷_, _++_}
@@ -133,6 +133,32 @@ further =
     ∷ settledCase (executed 2 (simple branch hit 0) ∷ plainOne ∷ []) 11
     ∷ []
 
+-- Document 02, F-3: "A load into register 1 with miss 10, followed by a store of register 1 with first source 0 and a hit, then finishes one cycle
+-- sooner."
+unfoldable pub valueLoaded : ℕ → Trace
+unfolding simple registers
+valueLoaded latency = registers 0 0 1 (simple load miss latency) ∷ registers 0 1 0 (simple store hit 1) ∷ []
+
+-- a store with both sources 0, after a load into 0
+unfoldable pub nothingLoaded : ℕ → Trace
+unfolding simple registers
+nothingLoaded latency = registers 0 0 0 (simple load miss latency) ∷ registers 0 0 0 (simple store hit 1) ∷ []
+
+-- That example, and the same with the load a hit and the store a miss: before the request they took 18 and 17. What still waits in ID for the load:
+-- a store by its first source, by both; any other kind by its second. Nothing waits by register 0.
+unfoldable pub lateValues : List Case
+unfolding simple plainOne registers settledCase valueLoaded nothingLoaded
+lateValues =
+    settledCase (valueLoaded 10) 17
+    ∷ settledCase (registers 0 0 1 (simple load hit 1) ∷ registers 0 1 0 (simple store miss 10) ∷ []) 16
+    ∷ settledCase (registers 0 0 1 (simple load miss 10) ∷ registers 1 0 0 (simple store hit 1) ∷ []) 18
+    ∷ settledCase (registers 0 0 1 (simple load miss 10) ∷ registers 1 1 0 (simple store hit 1) ∷ []) 18
+    ∷ settledCase (registers 0 0 1 (simple load miss 10) ∷ registers 0 1 2 plainOne ∷ []) 18
+    ∷ settledCase (registers 0 0 1 (simple load miss 10) ∷ registers 0 1 2 (simple load hit 1) ∷ []) 18
+    ∷ settledCase (registers 0 0 1 (simple load miss 10) ∷ registers 0 1 0 (simple branch hit 0) ∷ []) 18
+    ∷ settledCase (nothingLoaded 10) 17
+    ∷ []
+
 unfoldable pub casesHold : List Case → Bool
 casesHold [] = true
 casesHold (c ∷ cs) = eqb (best (c .trace)) (c .best) and eqb (worst (c .trace)) (c .worst) and casesHold cs
@@ -165,5 +191,21 @@ chartOfD =
     ∷ row 2 dash dash (at 1 0) dash dash (at 0 0)
     ∷ row 2 dash dash dash (at 1 0) dash dash
     ∷ row 2 dash dash dash dash dash (at 1 0)
+    ∷ row 2 dash dash dash dash dash dash
+    ∷ []
+
+-- F-3's example with a latency of 2. The store enters EX behind the load, and MEM when the load leaves it.
+unfoldable pub chartOfValue : List State
+unfolding at dash row
+chartOfValue =
+    row 0 dash dash dash dash dash dash
+    ∷ row 1 (at 0 0) dash dash dash dash dash
+    ∷ row 2 (at 1 0) (at 0 0) dash dash dash dash
+    ∷ row 2 dash (at 1 0) (at 0 0) dash dash dash
+    ∷ row 2 dash dash (at 1 0) (at 0 2) dash dash
+    ∷ row 2 dash dash (at 1 0) (at 0 1) dash dash
+    ∷ row 2 dash dash (at 1 0) (at 0 0) dash dash
+    ∷ row 2 dash dash dash (at 1 0) dash (at 0 0)
+    ∷ row 2 dash dash dash dash (at 1 0) dash
     ∷ row 2 dash dash dash dash dash dash
     ∷ []

@@ -8,11 +8,11 @@ use lib.Dec.{T, eqb}
 use lib.ListN.{length}
 use Rattle.machine.specs.Test.{_and_, _or_, every}
 use Rattle.machine.specs.Instruction.{hit, miss, Trace, instruction}
-use Rattle.machine.specs.Rules.{Stage, post, next, same, Places, further, ready, moves, willBeFree, cycle, after, allLeft}
+use Rattle.machine.specs.Rules.{Stage, EX, MEM, post, next, same, Places, further, accessReady, valueReady, ready, moves, willBeFree, cycle, after, allLeft}
 use Rattle.machine.specs.Time.{bound, finish, Settling, Delayed, Known, settle, best, worst}
 use Rattle.machine.specs.Order.{Slower, SameFlags, added}
 use Rattle.machine.specs.Bus.{busTime, Access, UnderWay}
-use Rattle.machine.specs.Cases.{cases, further as furtherCases, casesHold, caseD, rows, chartOfD}
+use Rattle.machine.specs.Cases.{cases, further as furtherCases, valueLoaded, nothingLoaded, lateValues, casesHold, caseD, rows, chartOfD, chartOfValue}
 use Rattle.machine.specs.State.{start, placeOf, stateOf, Orderly, orderly}
 use Rattle.machine.specs.declared.State.{State}
 
@@ -24,9 +24,16 @@ CasesHold = T (casesHold cases)
 abbrev pub FurtherHold : Type 0
 FurtherHold = T (casesHold furtherCases)
 
--- D's chart, row by row
+-- and what document 02, F-3, amends
+abbrev pub LateValuesHold : Type 0
+LateValuesHold = T (casesHold lateValues)
+
+-- D's chart, row by row, and that of F-3's example with a latency of 2
 abbrev pub ChartHolds : Type 0
 ChartHolds = rows caseD 9 ≡ chartOfD
+
+abbrev pub ValueChartHolds : Type 0
+ValueChartHolds = rows (valueLoaded 2) 10 ≡ chartOfValue
 
 -- `moves`, a test of instructions, and `willBeFree`, a test of stages, satisfy document 01's two sentences as equations: each is given by the other,
 -- and no budget is named.
@@ -53,6 +60,26 @@ SentencesDecide =
     (trace : Trace) (places : Places) (moving : ℕ → Bool) (free : Stage → Bool) →
     KeepsSentences trace places moving free →
     ((i : ℕ) → moving i ≡ moves trace places i) × ((s : Stage) → free s ≡ willBeFree trace places s)
+
+-- Document 02, F-3, has a store wait in EX for its second source. That wait never decides anything, since an older load short of (MEM, 0) keeps MEM
+-- busy: where the value is not ready, MEM will not be free, so that the rest of EX's rule says who moves. Of every orderly state, as are all that a
+-- run goes through.
+abbrev pub ValueNeverDecides : Type 0
+ValueNeverDecides =
+    (trace : Trace) (s : State) →
+    Orderly trace s →
+    (i : ℕ) →
+    placeOf s i .stage ≡ EX →
+    (valueReady trace (placeOf s) i ≡ false → willBeFree trace (placeOf s) MEM ≡ false)
+    × (moves trace (placeOf s) i ≡ (eqb (placeOf s i .count) 0 and accessReady trace (placeOf s) i and willBeFree trace (placeOf s) MEM))
+
+-- There is such a wait: after four cycles F-3's example has the store in EX and its value still to come. Register 0 is waited for neither there nor,
+-- a cycle before, in ID.
+abbrev pub ValueWaits : Type 0
+ValueWaits =
+    (valueReady (valueLoaded 2) (after (valueLoaded 2) 4) 1 ≡ false)
+    × (valueReady (nothingLoaded 2) (after (nothingLoaded 2) 4) 1 ≡ true)
+    × (ready (nothingLoaded 2) (after (nothingLoaded 2) 3) 1 ≡ true)
 
 -- demand 2: "the finishing time is the least number of cycles after which all have left": after it all have, and after no fewer
 abbrev pub FinishIsLeast : Type 0

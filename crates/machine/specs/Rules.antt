@@ -1,4 +1,4 @@
--- The cycle rules: document 01, "One cycle", sentence by sentence. Every test is made on the state before the cycle.
+-- The cycle rules: document 01, "One cycle", sentence by sentence, as amended by document 02. Every test is made on the state before the cycle.
 use Prim.Native.Nat.{ℕ, zero, suc, _+_, _-_}
 use mathlib.Core.Bool.{Bool, true, false, not, cond}
 use lib.Dec.{ltb, eqb}
@@ -124,23 +124,42 @@ readyInPre trace places i =
     or (noOlder trace places i (λ j p. isLoad (j .kind) and shortOf p MEM 0)
     and noOlder trace places i (λ j p. isStore (j .kind) and shortOf p ST 0)))
 
--- "one of its sources other than register 0"
-unfoldable pub reads : Instruction → ℕ → Bool
-reads i register = not (eqb register 0) and (eqb (i .source1) register or eqb (i .source2) register)
+-- "Register 0 never carries a dependence."
+abbrev pub carries : ℕ → ℕ → Bool
+carries source register = not (eqb register 0) and eqb source register
 
--- "In ID it is ready when no older load short of (MEM, 0) has as target one of its sources other than register 0."
+-- Where a source is needed; document 02, F-3: "From now on a store waits in ID for its first source only, and in EX for its second." Any other kind
+-- waits in ID for both.
+unfoldable pub readsInID : Instruction → ℕ → Bool
+readsInID i register = carries (i .source1) register or (not (isStore (i .kind)) and carries (i .source2) register)
+
+unfoldable pub readsInEX : Instruction → ℕ → Bool
+readsInEX i register = isStore (i .kind) and carries (i .source2) register
+
+-- "no older load short of (MEM, 0) has as target" a register that passes the test
+abbrev pub noLoadInto : Trace → Places → ℕ → (ℕ → Bool) → Bool
+noLoadInto trace places i test = noOlder trace places i (λ j p. isLoad (j .kind) and shortOf p MEM 0 and test (j .target))
+
+-- "In ID it is ready when no older load short of (MEM, 0) has as target one of its sources other than register 0", but for a store's second.
 readyInID : Trace → Places → ℕ → Bool
-readyInID trace places i =
-    noOlder trace places i (λ j p. isLoad (j .kind) and shortOf p MEM 0 and reads (instruction trace i) (j .target))
+readyInID trace places i = noLoadInto trace places i (readsInID (instruction trace i))
 
 -- "a load or store with a data miss"
 unfoldable pub missesData : Instruction → Bool
 missesData i = (isLoad (i .kind) or isStore (i .kind)) and misses (i .access)
 
 -- "In EX a load or store with a data miss is ready when no older store is short of (ST, 0)."
-readyInEX : Trace → Places → ℕ → Bool
-readyInEX trace places i =
+abbrev pub accessReady : Trace → Places → ℕ → Bool
+accessReady trace places i =
     not (missesData (instruction trace i)) or noOlder trace places i (λ j p. isStore (j .kind) and shortOf p ST 0)
+
+-- "a store's second source is the value to be stored, fetched only on the way into MEM"
+abbrev pub valueReady : Trace → Places → ℕ → Bool
+valueReady trace places i = noLoadInto trace places i (readsInEX (instruction trace i))
+
+-- In EX it waits for both; that the second never decides is shown (`ValueNeverDecides`).
+readyInEX : Trace → Places → ℕ → Bool
+readyInEX trace places i = accessReady trace places i and valueReady trace places i
 
 -- "Elsewhere it is always ready."
 unfoldable pub readyIn : Stage → Trace → Places → ℕ → Bool

@@ -81,17 +81,31 @@ fn awaited(register: u8, targets: u32) -> bool {
 }
 
 // "In ID it is ready when no older load short of (MEM, 0) has as target one of its sources other
-// than register 0."
-fn ready_in_id(first: u8, second: u8, targets: u32) -> bool {
+// than register 0." But "a store waits in ID for its first source only" (document 02, F-3).
+fn ready_in_id(kind: u8, first: u8, second: u8, targets: u32) -> bool {
+    if kind == STORE {
+        return !awaited(first, targets);
+    }
     !awaited(first, targets) && !awaited(second, targets)
 }
 
 // "In EX a load or store with a data miss is ready when no older store is short of (ST, 0)."
-fn ready_in_ex(kind: u8, data: u8, older_store: bool) -> bool {
+fn access_ready(kind: u8, data: u8, older_store: bool) -> bool {
     if kind != LOAD && kind != STORE {
         return true;
     }
     data != MISS || !older_store
+}
+
+// "A store waits in ID for its first source only, and in EX for its second" (document 02, F-3),
+// which "is the value to be stored, fetched only on the way into MEM".
+fn value_ready(kind: u8, second: u8, targets: u32) -> bool {
+    kind != STORE || !awaited(second, targets)
+}
+
+// In EX both sentences count: the one on a data miss and the one on a store's value.
+fn ready_in_ex(x: Instruction, older: Older) -> bool {
+    access_ready(x.kind, x.data, older.store) && value_ready(x.kind, x.second, older.targets)
 }
 
 // Whether x, which stands in this stage, is ready. "Elsewhere it is always ready."
@@ -100,10 +114,10 @@ pub fn ready(x: Instruction, stage: u8, older: Older) -> bool {
         return ready_in_pre(x.fetch, older);
     }
     if stage == ID {
-        return ready_in_id(x.first, x.second, older.targets);
+        return ready_in_id(x.kind, x.first, x.second, older.targets);
     }
     if stage == EX {
-        return ready_in_ex(x.kind, x.data, older.store);
+        return ready_in_ex(x, older);
     }
     true
 }

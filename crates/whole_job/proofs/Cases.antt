@@ -1,7 +1,7 @@
 -- The worked job, by computation.
 use mathlib.Core.Path.{refl}
 use Rattle.machine.specs.Test.{_and_, _or_, every, none}
-use Rattle.machine.specs.Rules.{next, further, shortOf, entry, noOlder, reads, missesData, readyIn, ready, budget, movesWithin, moves, cycle, allPre, after, allLeft}
+use Rattle.machine.specs.Rules.{next, further, shortOf, entry, noOlder, readsInID, readsInEX, missesData, readyIn, ready, budget, movesWithin, moves, cycle, allPre, after, allLeft}
 use Rattle.machine.specs.Time.{bound, leastFrom, finish, settle, worst}
 use Rattle.record.specs.Refusal.{_then_, _unless_}
 use Rattle.record.specs.Layout.{fieldsFrom}
@@ -15,7 +15,7 @@ use Rattle.whole_job.specs.Answers.{jobRefusal, timedAlone, jobAnswer, j
 use Rattle.whole_job.specs.Cases.{JobsAnswered}
 
 pub jobs-answered : JobsAnswered
-unfolding _and_ _or_ every none next further shortOf entry noOlder reads missesData readyIn ready budget movesWithin moves cycle allPre after allLeft bound leastFrom finish settle worst _then_ _unless_ fieldsFrom breaksRules kindOf flagOf instructionOf breaksAt firsts traceOf lengthRefusal recordRefusal bodyRefusal firstRefusal bodyStart entryRefusal entriesRefusal tableRefusal tracesRefusal fileRefusal openRefusal openBody bestWorstAnswer jobRefusal timedAlone jobAnswer jobTimes
+unfolding _and_ _or_ every none next further shortOf entry noOlder readsInID readsInEX missesData readyIn ready budget movesWithin moves cycle allPre after allLeft bound leastFrom finish settle worst _then_ _unless_ fieldsFrom breaksRules kindOf flagOf instructionOf breaksAt firsts traceOf lengthRefusal recordRefusal bodyRefusal firstRefusal bodyStart entryRefusal entriesRefusal tableRefusal tracesRefusal fileRefusal openRefusal openBody bestWorstAnswer jobRefusal timedAlone jobAnswer jobTimes
 jobs-answered =
     record {
       longer = (refl, refl);

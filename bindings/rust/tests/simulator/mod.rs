@@ -148,16 +148,17 @@ fn entry(i: &Instruction, stage: Stage) -> u32 {
     }
 }
 
+/// Document 01's sentences on being ready, and document 02's: "a store waits in ID for its first source only, and in EX for its
+/// second". In both stages it waits for an older load short of (MEM, 0), and for register 0 never.
 fn ready(trace: &[Instruction], places: &[Place], i: usize) -> bool {
     let me = &trace[i];
     let pending = |kind: u8, stage: Stage| (0..i).any(|j| trace[j].kind == kind && short_of(places[j], stage));
+    let awaited = |source: u8| source != 0 && (0..i).any(|j| trace[j].kind == LOAD && trace[j].target == source && short_of(places[j], Mem));
+    let store = me.kind == STORE;
     match places[i].stage {
         Pre => (0..i).all(|j| places[j].stage != Pre) && !pending(BRANCH, Ex) && (me.fetch == HIT || !pending(LOAD, Mem) && !pending(STORE, St)),
-        Id => !(0..i).any(|j| {
-            let to = trace[j].target;
-            trace[j].kind == LOAD && to != 0 && (to == me.source1 || to == me.source2) && short_of(places[j], Mem)
-        }),
-        Ex if me.access == MISS => !pending(STORE, St),
+        Id => !awaited(me.source1) && (store || !awaited(me.source2)),
+        Ex => (me.access != MISS || !pending(STORE, St)) && !(store && awaited(me.source2)),
         _ => true,
     }
 }

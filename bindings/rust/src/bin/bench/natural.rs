@@ -62,8 +62,13 @@ impl Instruction {
         }
     }
 
-    fn reads(&self, register: u8) -> bool {
-        register != 0 && (self.source1 == register || self.source2 == register)
+    /// A store's second source is its value, which it needs only in EX.
+    fn reads_in_id(&self, register: u8) -> bool {
+        register != 0 && (self.source1 == register || self.kind != STORE && self.source2 == register)
+    }
+
+    fn reads_in_ex(&self, register: u8) -> bool {
+        register != 0 && self.kind == STORE && self.source2 == register
     }
 }
 
@@ -132,7 +137,7 @@ fn times(w: &Window, i: &Instruction) -> [u32; 6] {
     let memory = if i.fetch == 0 { 0 } else { w.load_done.max(w.store_done) };
     let at_if = w.id.max(1).max(w.branch_done).max(memory);
     let at_id = (at_if + i.in_if() + 1).max(w.ex);
-    let load = if i.reads(w.load_target) { w.load_done } else { 0 };
+    let load = if i.reads_in_id(w.load_target) { w.load_done } else { 0 };
     let at_ex = (at_id + 1).max(w.mem).max(load);
     let store = if i.access == 1 { w.store_done } else { 0 };
     let at_mem = (at_ex + i.execution + 1).max(w.last).max(store);
@@ -281,8 +286,8 @@ fn held_back(body: &[u8], s: &State, level: u32, k: u32) -> bool {
             && pending(&j, l, slot.count)
             && match level {
                 0 => j.kind == BRANCH || i.fetch != 0,
-                2 => j.kind == LOAD && i.reads(j.target),
-                _ => j.kind == STORE && i.access == 1,
+                2 => j.kind == LOAD && i.reads_in_id(j.target),
+                _ => j.kind == STORE && i.access == 1 || j.kind == LOAD && i.reads_in_ex(j.target),
             }
     })
 }

@@ -21,12 +21,12 @@ returns c = rw (c .before .before .if1 .taken) (either-of (c .before .holds-fetc
 is-load-requires : tie.Need-is-load-requires
 is-load-requires c κs = tt
 
-reads-requires : tie.Need-reads-requires
-reads-requires c κs = tt
+reads-in-id-requires : tie.Need-reads-in-id-requires
+reads-in-id-requires c κs = tt
 
 returns-2 : tie.Need-returns-2
 unfolding waitsFor instructionOf
-returns-2 c = rw (c .before .before .if2 .taken) (both-of (c .before .is-load .ensures) (c .reads .ensures))
+returns-2 c = rw (c .before .before .if2 .taken) (both-of (c .before .is-load .ensures) (c .reads-in-id .ensures))
 
 is-store-requires : tie.Need-is-store-requires
 is-store-requires c κs = tt
@@ -34,9 +34,20 @@ is-store-requires c κs = tt
 misses-data-requires : tie.Need-misses-data-requires
 misses-data-requires c κs = tt
 
+is-load-requires-2 : tie.Need-is-load-requires-2
+is-load-requires-2 c κs = tt
+
+reads-in-ex-requires : tie.Need-reads-in-ex-requires
+reads-in-ex-requires c κs = tt
+
 returns-3 : tie.Need-returns-3
-unfolding waitsFor
-returns-3 c = rw (c .before .before .if3 .taken) (both-of (c .before .is-store .ensures) (c .misses-data .ensures))
+unfolding waitsFor instructionOf
+returns-3 c =
+    let c3 = c .before .before .before in
+    rw (c3 .before .if3 .taken)
+    (either-of
+    (both-of (c3 .is-store .ensures) (c .before .before .misses-data .ensures))
+    (both-of (c .before .is-load2 .ensures) (c .reads-in-ex .ensures)))
 
 returns-4 : tie.Need-returns-4
 returns-4 c = sym (waits-elsewhere _ (c .before .before .if1 .left) (c .before .if2 .left) (c .if3 .left) _ _)
@@ -49,9 +60,11 @@ waits-for-spec =
     fetch-hits-requires
     returns
     is-load-requires
-    reads-requires
+    reads-in-id-requires
     returns-2
     is-store-requires
     misses-data-requires
+    is-load-requires-2
+    reads-in-ex-requires
     returns-3
     returns-4)
