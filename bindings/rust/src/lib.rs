@@ -80,6 +80,7 @@ pub struct Fields {
     pub fetch: u32,
     pub access: u32,
     pub source1: u32,
+    /// Of a store, the value to be stored, for which it waits later than for `source1`.
     pub source2: u32,
     pub target: u32,
     pub execution: u32,

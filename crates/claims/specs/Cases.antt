@@ -1,4 +1,5 @@
--- Document 01's "Charts worked by hand" through the calls: what Finish, Best and worst, Run and Margin answer for the bodies of A to L.
+-- Document 01's "Charts worked by hand" through the calls: what Finish, Best and worst, Run and Margin answer for the bodies of A to L, and for
+-- those of document 02, F-3.
 use Prim.Native.Nat.{ℕ, min}
 use mathlib.Core.Bool.{false, cond}
 use mathlib.Core.List.{List, _++_, map}

@@ -91,7 +91,7 @@ pub fn reads_in_id(f: Fields, register: u32) -> bool
 }
 
 // Whether it needs a register only in EX, on the way into MEM: the value to be stored.
-pub fn reads_in_ex(f: Fields, register: u32) -> bool
+pub(crate) fn reads_in_ex(f: Fields, register: u32) -> bool
     ensures { λ r. ⌜ r ≡ readsInEX (instructionOf f) register ⌝ }
 {
     is_store(f) & carries(f.source2, register)

@@ -23,7 +23,6 @@ pub use kinds::holds_fetches;
 pub use kinds::is_load;
 pub use kinds::is_store;
 pub use kinds::misses_data;
-pub use kinds::reads_in_ex;
 pub use kinds::reads_in_id;
 pub use waits::pending;
 pub use waits::waits_for;

@@ -8,16 +8,16 @@ use lib.ListN.{length}
 use Rattle.machine.specs.Instruction.{Instruction, Trace, instruction}
 use Rattle.machine.specs.Time.{Settling, Delayed}
 use Rattle.machine.specs.State.{maxInstructions}
-use Rattle.machine.specs.Cases.{cases, further, caseD}
+use Rattle.machine.specs.Cases.{cases, further, lateValues, caseD}
 use Rattle.record.specs.Body.{Bytes, breaksAt, traceOf, bodyRefusal, settledRefusal}
 use Rattle.encoding.specs.Encoding.{recordOf, bodyOf}
 use Rattle.record.specs.Refusal.{unknownFlag}
 use Rattle.encoding.specs.Cases.{bytesOfD, casesAccepted}
 
--- Traces are accepted at all: A to L, and the cases that they do not show. Were the rules of a record to refuse everything, what is claimed of
+-- Traces are accepted at all: A to L, and the cases that they do not show, those of document 02, F-3, among them. Were the rules of a record to refuse everything, what is claimed of
 -- accepted bodies would hold and say nothing.
 abbrev pub CasesAccepted : Type 0
-CasesAccepted = T (casesAccepted (cases ++ further))
+CasesAccepted = T (casesAccepted (cases ++ further ++ lateValues))
 
 -- Of A to L only the last has unknown flags: 11 declines L alone.
 abbrev pub OnlyLIsUnknown : Type 0

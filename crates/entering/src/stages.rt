@@ -71,7 +71,8 @@ pub fn enter_ex(w: Window, f: Fields, from: u32) -> u32
 }
 
 // An access that misses is a load's or a store's, by the record rules. A store's second source is
-// not asked for: its load, if it is not done, keeps MEM busy (`value-in-time`).
+// not asked for: its load, if it is not done, keeps MEM busy (`ValueNeverDecides`; of times,
+// `value-in-time`).
 pub fn enter_mem(w: Window, f: Fields, from: u32) -> u32
     requires { ⌜ (from + entry (instructionOf f) EX + 1 < 2 ^ 32) × AccessLawful (instructionOf f) ⌝ }
     ensures { λ r. ⌜ r ≡ enterMEM (windowOf w) (instructionOf f) from ⌝ }

@@ -29,4 +29,4 @@ value-chart-holds = refl
 
 pub value-waits : ValueWaits
 unfolding _and_ _or_ every none next furtherOn shortOf entry noOlder readsInID readsInEX missesData readyIn ready budget movesWithin moves cycle allPre after valueLoaded nothingLoaded
-value-waits = (refl, refl, refl)
+value-waits = (refl, refl)

@@ -2,14 +2,14 @@
 use Prim.Native.Nat.{ℕ, _<_}
 use native.Mathlib.Omega.{arith}
 use mathlib.Core.Bool.{Bool, true, false, not}
-use mathlib.Core.Path.{_≡_, refl, sym, ap, subst, _∙_}
+use mathlib.Core.Path.{_≡_, refl, sym, ap, _∙_}
 use borrow.Author.Tests.{ltb-true, ne-eqb}
 use lib.Dec.{eqb}
 use lib.ListN.{length}
 use Rattle.machine.specs.Test.{_and_, _or_}
 use Rattle.machine.specs.Instruction.{Trace, instruction}
 use Rattle.machine.specs.Rules.{Stage, pre, IF, ID, EX, MEM, ST, WB, post, next, same, Place, further, shortOf, isLoad, noOlder, readsInEX, accessReady, valueReady, readyIn, ready, moves, willBeFree}
-use Rattle.machine.specs.State.{slot, placeOf, Orderly}
+use Rattle.machine.specs.State.{placeOf, Orderly}
 use Rattle.machine.specs.Claims.{ValueNeverDecides}
 use Rattle.machine.specs.declared.State.{State}
 use Rattle.machine.proofs.Connectives.{clash, Value, passed, failed, value, and-l, and-r, and-failed-l, and-failed-r, and-true, or-failed, every-fails, none-below}

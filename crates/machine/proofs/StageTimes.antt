@@ -17,7 +17,7 @@ use Rattle.machine.proofs.Derivation.{waits, waits-for, waits-within, c
 use Rattle.machine.proofs.Dominance.{previous, le-previous, previous-le, share-early, lastDone, last-done-le}
 use Rattle.machine.proofs.FetchTime.{loads, stores, load-done, store-done, done-pre}
 
-pub reads-zero : (i : Instruction) → readsInID i 0 ≡ false
+reads-zero : (i : Instruction) → readsInID i 0 ≡ false
 unfolding readsInID _and_ _or_
 reads-zero i = and-false (not (isStore (i .kind)))
 
@@ -113,8 +113,8 @@ module _ (trace : Trace) where
       (waits-for 3 (instruction trace k) (instruction trace j) (or-l _ _ (and-both _ _ f e)) (store-goal (instruction trace j .kind) f))
       (wait b k j 3 l)))
 
-  -- A load short of (MEM, 0) keeps MEM busy: every older instruction is done there before the one directly before leaves it. So a store's wait for
-  -- its second source never decides when it enters MEM; of the cycles from any orderly state, `value-never-decides` says the same.
+  -- A load short of (MEM, 0) keeps MEM busy: every older instruction is done there by the time that the one directly before leaves it. So a store's wait for
+  -- its second source never decides when it enters MEM; `ValueNeverDecides` says the same of the cycle from any orderly state.
   value-in-time : (k j : ℕ) → j < k → done b j 4 ≤ previous b k 5
   value-in-time k j l = omega (arith, own b j 4, le-previous b k j 4 l (omega arith) (omega arith))
 

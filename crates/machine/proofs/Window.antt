@@ -46,7 +46,7 @@ enterID w i atIF = max (atIF + entry i IF + 1) (w .EX)
 unfoldable pub enterEX : Window → Instruction → ℕ → ℕ
 enterEX w i atID = max (atID + 1) (cond (readsInID i (w .loadTarget)) (w .last) (w .MEM))
 
--- a store's second source is not asked for: its load, if it is not done, keeps MEM busy (`value-in-time`)
+-- a store's second source is not asked for: its load, if it is not done, keeps MEM busy (`ValueNeverDecides`; of times, `value-in-time`)
 unfoldable pub enterMEM : Window → Instruction → ℕ → ℕ
 enterMEM w i atEX = max (max (atEX + entry i EX + 1) (w .last)) (cond (missesData i) (w .storeDone) 0)
 

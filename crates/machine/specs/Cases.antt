@@ -144,8 +144,8 @@ unfoldable pub nothingLoaded : ℕ → Trace
 unfolding simple registers
 nothingLoaded latency = registers 0 0 0 (simple load miss latency) ∷ registers 0 0 0 (simple store hit 1) ∷ []
 
--- That example, and the same with the load a hit and the store a miss: before the request they took 18 and 17. What still waits in ID for the load:
--- a store by its first source, by both; any other kind by its second. Nothing waits by register 0.
+-- That example, and the same with the load a hit and the store a miss, which take 18 and 17 by document 01's rule. What waits in ID for the load all
+-- the same: a store by its first source, by both; any other kind by its second. Nothing waits by register 0.
 unfoldable pub lateValues : List Case
 unfolding simple plainOne registers settledCase valueLoaded nothingLoaded
 lateValues =

@@ -2,6 +2,7 @@
 -- (docs/CLAIMS.md has its three demands) or document 02's.
 use Prim.Native.Nat.{ℕ, _+_, _≤_, _<_}
 use mathlib.Core.Bool.{Bool, true, false, not}
+use mathlib.Core.List.{[], _∷_, map}
 use mathlib.Core.Logic.{_↔_}
 use mathlib.Core.Path.{_≡_}
 use lib.Dec.{T, eqb}
@@ -73,13 +74,12 @@ ValueNeverDecides =
     (valueReady trace (placeOf s) i ≡ false → willBeFree trace (placeOf s) MEM ≡ false)
     × (moves trace (placeOf s) i ≡ (eqb (placeOf s i .count) 0 and accessReady trace (placeOf s) i and willBeFree trace (placeOf s) MEM))
 
--- There is such a wait: after four cycles F-3's example has the store in EX and its value still to come. Register 0 is waited for neither there nor,
--- a cycle before, in ID.
+-- There is such a wait. In F-3's example with a latency of 2 the store is ready in ID after three cycles; in EX it is not after four and five, where
+-- the load is at (MEM, 2) and (MEM, 1), and is after six. Where both have register 0 it is ready throughout.
 abbrev pub ValueWaits : Type 0
 ValueWaits =
-    (valueReady (valueLoaded 2) (after (valueLoaded 2) 4) 1 ≡ false)
-    × (valueReady (nothingLoaded 2) (after (nothingLoaded 2) 4) 1 ≡ true)
-    × (ready (nothingLoaded 2) (after (nothingLoaded 2) 3) 1 ≡ true)
+    (map (λ t. ready (valueLoaded 2) (after (valueLoaded 2) t) 1) (3 ∷ 4 ∷ 5 ∷ 6 ∷ []) ≡ true ∷ false ∷ false ∷ true ∷ [])
+    × (map (λ t. ready (nothingLoaded 2) (after (nothingLoaded 2) t) 1) (3 ∷ 4 ∷ 5 ∷ 6 ∷ []) ≡ true ∷ true ∷ true ∷ true ∷ [])
 
 -- demand 2: "the finishing time is the least number of cycles after which all have left": after it all have, and after no fewer
 abbrev pub FinishIsLeast : Type 0

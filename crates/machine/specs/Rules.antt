@@ -157,7 +157,7 @@ accessReady trace places i =
 abbrev pub valueReady : Trace → Places → ℕ → Bool
 valueReady trace places i = noLoadInto trace places i (readsInEX (instruction trace i))
 
--- In EX it waits for both; that the second never decides is shown (`ValueNeverDecides`).
+-- In EX it is ready when both are; that `valueReady` never decides is shown (`ValueNeverDecides`).
 readyInEX : Trace → Places → ℕ → Bool
 readyInEX trace places i = accessReady trace places i and valueReady trace places i
 

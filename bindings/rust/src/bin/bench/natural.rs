@@ -132,7 +132,8 @@ struct Window {
     finish: u32,
 }
 
-/// When the instruction enters IF, ID, EX, MEM, its last stage and post.
+/// When the instruction enters IF, ID, EX, MEM, its last stage and post. A store's value is not asked for: its load, if it is
+/// not done, keeps MEM busy (`ValueNeverDecides`).
 fn times(w: &Window, i: &Instruction) -> [u32; 6] {
     let memory = if i.fetch == 0 { 0 } else { w.load_done.max(w.store_done) };
     let at_if = w.id.max(1).max(w.branch_done).max(memory);
