@@ -4,11 +4,11 @@ use mathlib.Core.Bool.{false}
 use mathlib.Core.Path.{_≡_, refl}
 use Rattle.machine.specs.Instruction.{Instruction}
 use Rattle.machine.proofs.Stages.{stageAt}
-use Rattle.machine.proofs.Hazards.{waitsFor}
+use Rattle.machine.proofs.Hazards.{waitsFor, asksFor}
 
 pub waits-elsewhere
-    : (n : ℕ) → (n ≡ 0 → ⊥) → (n ≡ 2 → ⊥) → (n ≡ 3 → ⊥) → (i j : Instruction) → waitsFor (stageAt n) i j ≡ false
-unfolding waitsFor
+    : (n : ℕ) → (n ≡ 0 → ⊥) → (n ≡ 2 → ⊥) → (n ≡ 3 → ⊥) → (i j : Instruction) → asksFor (stageAt n) i j ≡ false
+unfolding asksFor waitsFor
 waits-elsewhere zero a b c i j = absurd (a refl)
 waits-elsewhere (suc zero) a b c i j = refl
 waits-elsewhere (suc (suc zero)) a b c i j = absurd (b refl)

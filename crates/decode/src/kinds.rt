@@ -8,7 +8,6 @@ ghost use Rattle.machine.specs.Rules.{
   misses,
   carries,
   readsInID,
-  readsInEX,
   missesData,
 };
 ghost use Rattle.record.specs.Rules.{instructionOf};
@@ -88,11 +87,4 @@ pub fn reads_in_id(f: Fields, register: u32) -> bool
     ensures { λ r. ⌜ r ≡ readsInID (instructionOf f) register ⌝ }
 {
     carries(f.source1, register) | (!is_store(f) & carries(f.source2, register))
-}
-
-// Whether it needs a register only in EX, on the way into MEM: the value to be stored.
-pub(crate) fn reads_in_ex(f: Fields, register: u32) -> bool
-    ensures { λ r. ⌜ r ≡ readsInEX (instructionOf f) register ⌝ }
-{
-    is_store(f) & carries(f.source2, register)
 }

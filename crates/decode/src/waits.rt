@@ -2,7 +2,7 @@
 ghost use mathlib.Core.Path.{_≡_};
 ghost use Prim.Native.Nat.{_<_, _≤_};
 ghost use Rattle.machine.proofs.Stages.{stageAt};
-ghost use Rattle.machine.proofs.Hazards.{pending, waitsFor};
+ghost use Rattle.machine.proofs.Hazards.{pending, asksFor};
 ghost use Rattle.machine.proofs.Masks.{goalNumber};
 ghost use Rattle.record.specs.Rules.{instructionOf};
 use crate::kinds::fetch_hits;
@@ -10,7 +10,6 @@ use crate::kinds::holds_fetches;
 use crate::kinds::is_load;
 use crate::kinds::is_store;
 use crate::kinds::misses_data;
-use crate::kinds::reads_in_ex;
 use crate::kinds::reads_in_id;
 use machine::stage::EX;
 use machine::stage::ID;
@@ -45,9 +44,11 @@ pub fn pending(f: Fields, stage: u32, count: u32) -> bool
     (stage < to) | ((stage == to) & (count > 0))
 }
 
-// At this stage the first instruction waits for the second, if the second is older and pending.
+// At this stage the first instruction waits for the second, if the second is older and pending. A
+// store's value is not asked for in EX: its load, if it is not done, keeps MEM busy
+// (`ValueNeverDecides`).
 pub fn waits_for(stage: u32, i: Fields, j: Fields) -> bool
-    ensures { λ r. ⌜ r ≡ waitsFor (stageAt stage) (instructionOf i) (instructionOf j) ⌝ }
+    ensures { λ r. ⌜ r ≡ asksFor (stageAt stage) (instructionOf i) (instructionOf j) ⌝ }
 {
     if stage == PRE {
         return holds_fetches(j) | !fetch_hits(i);
@@ -56,7 +57,7 @@ pub fn waits_for(stage: u32, i: Fields, j: Fields) -> bool
         return is_load(j) & reads_in_id(i, j.target);
     }
     if stage == EX {
-        return (is_store(j) & misses_data(i)) | (is_load(j) & reads_in_ex(i, j.target));
+        return is_store(j) & misses_data(i);
     }
     false
 }

@@ -12,7 +12,7 @@ use Rattle.machine.specs.State.{emptySlot, slot}
 use Rattle.machine.specs.declared.Slot.{Slot}
 use Rattle.machine.specs.declared.State.{State}
 use Rattle.machine.proofs.Connectives.{clash}
-use Rattle.machine.proofs.Hazards.{holds}
+use Rattle.machine.proofs.Hazards.{detains}
 
 -- the instruction in a stage that may move on; in pre, the one to be fetched next
 unfoldable pub standing : Trace → State → Stage → Slot
@@ -30,7 +30,7 @@ unfoldable pub holdsBack : Trace → Stage → ℕ → Stage → Slot → Bool
 holdsBack trace at i k held =
     held .filled
     and ltb (held .index) i
-    and holds at (instruction trace i) (instruction trace (held .index)) (record { stage = k; count = held .count })
+    and detains at (instruction trace i) (instruction trace (held .index)) (record { stage = k; count = held .count })
 
 unfoldable pub heldBack : Trace → State → Stage → ℕ → Bool
 heldBack trace s at i =

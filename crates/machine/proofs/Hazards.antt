@@ -2,10 +2,10 @@
 -- instruction. The schedule and the cycle by slots both rest on this.
 use Prim.Native.Nat.{ℕ}
 use mathlib.Core.Bool.{Bool, true, false, not, cond, false≢true}
-use mathlib.Core.Path.{_≡_, refl, sym, _∙_}
+use mathlib.Core.Path.{_≡_, refl, sym, ap₂, _∙_}
 use Rattle.machine.specs.Test.{_and_, _or_, none}
 use Rattle.machine.specs.Instruction.{Kind, Instruction, Trace, instruction}
-use Rattle.machine.specs.Rules.{Stage, pre, IF, ID, EX, MEM, ST, WB, post, same, Place, Places, shortOf, isLoad, isStore, holdsFetches, hits, noOlder, readsInID, readsInEX, missesData, readyIn}
+use Rattle.machine.specs.Rules.{Stage, pre, IF, ID, EX, MEM, ST, WB, post, same, Place, Places, shortOf, isLoad, isStore, holdsFetches, hits, noOlder, readsInID, readsInEX, missesData, accessReady, readyIn}
 use Rattle.machine.proofs.Connectives.{and-true, and-false, or-false, none-either, none-unless, none-same, none-false, not-or-none}
 use Rattle.machine.proofs.Doing.{Does, holding, loading, storing, nothing, does}
 
@@ -56,6 +56,17 @@ waitsFor ST i j = false
 waitsFor WB i j = false
 waitsFor post i j = false
 
+-- Whom a cycle has to ask about: all of these, but for the load of a store's value, which never decides (`value-never-decides`).
+unfoldable pub asksFor : Stage → Instruction → Instruction → Bool
+asksFor pre i j = waitsFor pre i j
+asksFor IF i j = waitsFor IF i j
+asksFor ID i j = waitsFor ID i j
+asksFor EX i j = isStore (j .kind) and missesData i
+asksFor MEM i j = waitsFor MEM i j
+asksFor ST i j = waitsFor ST i j
+asksFor WB i j = waitsFor WB i j
+asksFor post i j = waitsFor post i j
+
 -- in pre it also waits for older ones to leave pre
 unfoldable pub queues : Stage → Place → Bool
 queues pre p = same (p .stage) pre
@@ -70,6 +81,10 @@ queues post p = false
 -- the second instruction, an older one at this place, holds the first back in this stage
 abbrev pub holds : Stage → Instruction → Instruction → Place → Bool
 holds k i j p = pending (j .kind) p and waitsFor k i j
+
+-- the same, as far as a cycle has to ask
+abbrev pub detains : Stage → Instruction → Instruction → Place → Bool
+detains k i j p = pending (j .kind) p and asksFor k i j
 
 -- Each rule, for an older instruction.
 in-pre :
@@ -93,18 +108,21 @@ in-ID loading p read = refl
 in-ID storing p read = sym (and-false (shortOf p ST 0))
 in-ID holding p read = sym (and-false (shortOf p EX 0))
 
-in-EX :
-    {h l s : Bool} → Does h l s → (p : Place) (misses read : Bool) →
-    (misses and (s and shortOf p ST 0)) or (l and shortOf p MEM 0 and read) ≡ pendingTo (goalOf h l s) p and ((s and misses) or (l and read))
+in-EX : {h l s : Bool} → Does h l s → (p : Place) (misses : Bool) → misses and (s and shortOf p ST 0) ≡ pendingTo (goalOf h l s) p and (s and misses)
+unfolding _and_
+in-EX nothing p true = refl
+in-EX nothing p false = refl
+in-EX loading p true = sym (and-false (shortOf p MEM 0))
+in-EX loading p false = sym (and-false (shortOf p MEM 0))
+in-EX storing p true = sym (and-true (shortOf p ST 0))
+in-EX storing p false = sym (and-false (shortOf p ST 0))
+in-EX holding p true = sym (and-false (shortOf p EX 0))
+in-EX holding p false = sym (and-false (shortOf p EX 0))
+
+either-pending : (a b c : Bool) → (a and b) or (a and c) ≡ a and (b or c)
 unfolding _and_ _or_
-in-EX nothing p true read = refl
-in-EX nothing p false read = refl
-in-EX loading p true read = refl
-in-EX loading p false read = refl
-in-EX storing p true read = or-false (shortOf p ST 0) ∙ sym (and-true (shortOf p ST 0))
-in-EX storing p false read = sym (and-false (shortOf p ST 0))
-in-EX holding p true read = sym (and-false (shortOf p EX 0))
-in-EX holding p false read = sym (and-false (shortOf p EX 0))
+either-pending true b c = refl
+either-pending false b c = refl
 
 gather : (h : Bool) (a c l s : ℕ → Bool) (n : ℕ) →
     none a n and none c n and (h or (none l n and none s n)) ≡ none (λ k. a k or c k or (not h and (l k or s k))) n
@@ -124,8 +142,12 @@ module _ (trace : Trace) (places : Places) (i : ℕ) where
   unfolding _or_
   never waits = sym (none-same _ _ i (λ j l. and-false (waits j)) ∙ none-false i)
 
+  access-asked : accessReady trace places i ≡ none (λ j. detains EX (instruction trace i) (instruction trace j) (places j)) i
+  unfolding noOlder asksFor pending goal
+  access-asked = not-or-none _ _ i ∙ none-same _ _ i (λ j l. in-EX (does (kind j)) (places j) _)
+
   pub ready-holds : (k : Stage) → readyIn k trace places i ≡ noneHolds k
-  unfolding readyIn noOlder waitsFor queues pending goal _or_
+  unfolding readyIn noOlder waitsFor asksFor queues pending goal _or_
   ready-holds pre =
       gather (hits (instruction trace i .fetch))
       (λ j. same (places j .stage) pre)
@@ -137,9 +159,32 @@ module _ (trace : Trace) (places : Places) (i : ℕ) where
   ready-holds IF = never _
   ready-holds ID = none-same _ _ i (λ j l. in-ID (does (kind j)) (places j) _)
   ready-holds EX =
-      rw (not-or-none (missesData (instruction trace i)) (λ j. isStore (kind j) and shortOf (places j) ST 0) i)
-      (none-either _ _ i ∙ none-same _ _ i (λ j l. in-EX (does (kind j)) (places j) _ _))
+      ap₂ _and_ access-asked (none-same _ _ i (λ j l. in-ID (does (kind j)) (places j) _))
+      ∙ none-either _ _ i
+      ∙ none-same _ _ i (λ j l. either-pending (pending (kind j) (places j)) _ _)
   ready-holds MEM = never _
   ready-holds ST = never _
   ready-holds WB = never _
   ready-holds post = never _
+
+  -- what a cycle asks of an instruction in a stage: whether it is ready, but for a store's value
+  unfoldable pub asked : Stage → Bool
+  asked pre = readyIn pre trace places i
+  asked IF = readyIn IF trace places i
+  asked ID = readyIn ID trace places i
+  asked EX = accessReady trace places i
+  asked MEM = readyIn MEM trace places i
+  asked ST = readyIn ST trace places i
+  asked WB = readyIn WB trace places i
+  asked post = readyIn post trace places i
+
+  pub asked-detains : (k : Stage) → asked k ≡ none (λ j. queues k (places j) or detains k (instruction trace i) (instruction trace j) (places j)) i
+  unfolding asked asksFor queues _or_
+  asked-detains pre = ready-holds pre
+  asked-detains IF = ready-holds IF
+  asked-detains ID = ready-holds ID
+  asked-detains EX = access-asked
+  asked-detains MEM = ready-holds MEM
+  asked-detains ST = ready-holds ST
+  asked-detains WB = ready-holds WB
+  asked-detains post = ready-holds post

@@ -1,14 +1,14 @@
--- Who moves, by slots: in an orderly state the rules' "moves" and "will be free" equal those computed from the bits of the six slots and pre, by
--- induction on the budget.
-use Prim.Native.Nat.{ℕ, zero, suc, _≤_, _<_}
+-- Who moves, by slots: in an orderly state the rules' "moves" and "will be free" equal those computed from the bits of the six slots and pre, stage by
+-- stage from post backwards. The bits leave out a store's wait in EX for its value, which never decides.
+use Prim.Native.Nat.{ℕ, _≤_, _<_}
 use native.Mathlib.Omega.{arith}
-use mathlib.Core.Bool.{Bool, true, false, not}
+use mathlib.Core.Bool.{Bool, true, false, not, cond}
 use mathlib.Core.Path.{_≡_, refl, sym, ap, ap₂, subst, _∙_}
 use lib.Dec.{eqb}
 use lib.ListN.{length}
 use Rattle.machine.specs.Test.{_and_, _or_, every}
 use Rattle.machine.specs.Instruction.{Trace, instruction}
-use Rattle.machine.specs.Rules.{Stage, pre, IF, ID, EX, MEM, ST, WB, post, next, same, Place, noOlder, readyIn, ready, budget, movesWithin, willBeFreeWithin, moves}
+use Rattle.machine.specs.Rules.{Stage, pre, IF, ID, EX, MEM, ST, WB, post, next, same, Place, noOlder, accessReady, readyIn, ready, budget, movesWithin, moves, willBeFree}
 use Rattle.machine.specs.State.{slot, placeOf, Orderly}
 use Rattle.machine.specs.declared.Slot.{Slot}
 use Rattle.machine.specs.declared.State.{State}
@@ -16,20 +16,11 @@ use Rattle.machine.proofs.Connectives.{clash, Value, passed, failed, va
 use Rattle.machine.proofs.Stages.{same-stage, stage-same, inside, between}
 use Rattle.machine.proofs.Spots.{held-filled, held-index, held-at, slot-fetched, place-held, place-waiting}
 use Rattle.machine.proofs.Doing.{after-MEM}
-use Rattle.machine.proofs.BySlots.{standing, heldBack, goes, occupied, storeInMEM, nextIn, movesIn, freeIn, movesAt, leaves}
-use Rattle.machine.proofs.Ready.{ready-by-slots}
-
-next-not-pre : (inMEM : Bool) (k : Stage) → same (nextIn inMEM k) pre ≡ false
-unfolding nextIn
-next-not-pre inMEM pre = refl
-next-not-pre inMEM IF = refl
-next-not-pre inMEM ID = refl
-next-not-pre inMEM EX = refl
-next-not-pre true MEM = refl
-next-not-pre false MEM = refl
-next-not-pre inMEM ST = refl
-next-not-pre inMEM WB = refl
-next-not-pre inMEM post = refl
+use Rattle.machine.proofs.BySlots.{standing, heldBack, goes, occupied, storeInMEM, nextIn, freeAt, moves-at, free-at, leaves}
+use Rattle.machine.proofs.Budget.{budget-never-decides}
+use Rattle.machine.proofs.Hazards.{asked}
+use Rattle.machine.proofs.Ready.{asked-by-slots}
+use Rattle.machine.proofs.LateValue.{value-never-decides}
 
 pub standing-slot : (trace : Trace) (s : State) (k : Stage) → inside k ≡ true → standing trace s k ≡ slot s k
 unfolding standing
@@ -79,116 +70,177 @@ module _ (trace : Trace) (s : State) (o : Orderly trace s) where
   standing-next WB = refl
   standing-next post = refl
 
-  movesBit : ℕ → Stage → Bool
-  movesBit b k = movesIn b (goes trace s) (occupied trace s) (storeInMEM trace s) k
+  abbrev at : Stage → ℕ
+  at k = standing trace s k .index
 
-  freeBit : ℕ → Stage → Bool
-  freeBit b k = freeIn b (goes trace s) (occupied trace s) (storeInMEM trace s) k
+  abbrev free : Stage → Bool
+  free k = freeAt (goes trace s) (occupied trace s) (storeInMEM trace s) k
+
+  -- what the first sentence says of the instruction in a stage: in EX without its wait for a store's value, which never decides
+  Said : Stage → Type 0
+  Said k =
+      moves trace (placeOf s) (at k)
+      ≡ (eqb (standing trace s k .count) 0
+      and asked trace (placeOf s) (at k) k
+      and willBeFree trace (placeOf s) (next (instruction trace (at k) .kind) k))
+
+  as-ready : (k : Stage) → same k post ≡ false → asked trace (placeOf s) (at k) k ≡ readyIn k trace (placeOf s) (at k) → standing trace s k .filled ≡ true → Said k
+  unfolding Said ready
+  as-ready k n e f =
+      budget-never-decides trace (placeOf s) .moving (at k)
+      ∙ ap
+      (λ (p : Place).
+      not (same (p .stage) post)
+      and eqb (p .count) 0
+      and readyIn (p .stage) trace (placeOf s) (at k)
+      and willBeFree trace (placeOf s) (next (instruction trace (at k) .kind) (p .stage)))
+      (standing-place k f)
+      ∙ rw (n, true-and, e)
+
+  said : (k : Stage) → standing trace s k .filled ≡ true → Said k
+  unfolding Said asked standing next
+  said pre f = as-ready pre refl refl f
+  said IF f = as-ready IF refl refl f
+  said ID f = as-ready ID refl refl f
+  said EX f =
+      let p = standing-place EX f in
+      value-never-decides trace s o (s .EX .index) (ap (λ (p : Place). p .stage) p) .1
+      ∙ ap (λ (p : Place). eqb (p .count) 0 and accessReady trace (placeOf s) (s .EX .index) and willBeFree trace (placeOf s) MEM) p
+  said MEM f = as-ready MEM refl refl f
+  said ST f = as-ready ST refl refl f
+  said WB f = as-ready WB refl refl f
+  said post f = clash f refl
 
   goes-filled :
       (k : Stage) →
       standing trace s k .filled ≡ true →
-      goes trace s k ≡ eqb (standing trace s k .count) 0 and not (heldBack trace s k (standing trace s k .index))
+      goes trace s k ≡ eqb (standing trace s k .count) 0 and not (heldBack trace s k (at k))
   unfolding goes
   goes-filled k f = rw (f, true-and)
 
-  moves-step :
-      (b : ℕ) →
-      ((k : Stage) → same k pre ≡ false → willBeFreeWithin b trace (placeOf s) k ≡ freeBit b k) →
-      (k : Stage) →
-      standing trace s k .filled ≡ true →
-      movesWithin (suc b) trace (placeOf s) (standing trace s k .index) ≡ movesBit (suc b) k
-  unfolding movesBit freeBit movesWithin movesIn
-  moves-step b free k f =
-      let p = standing-place k f in
-      let at = ap (λ (p : Place). p .stage) p in
-      ap₂ _and_
-      (ap₂ _and_
-      (ap (λ (p : Place). eqb (p .count) 0) p)
-      (ready-by-slots trace s o k (standing trace s k .index) (standing-fetched k f) at)
-      ∙ sym (goes-filled k f))
-      (ap (willBeFreeWithin b trace (placeOf s)) (ap (next (instruction trace (standing trace s k .index) .kind)) at ∙ standing-next k)
-      ∙ free (nextIn (storeInMEM trace s) k) (next-not-pre (storeInMEM trace s) k))
+  -- By the two sentences, from post backwards. What stands in a stage moves by the rules as by slots, if the next stage will be free alike;
+  Moves : Stage → Type 0
+  Moves k = standing trace s k .filled ≡ true → moves trace (placeOf s) (at k) ≡ leaves trace s k
+
+  Frees : Stage → Type 0
+  Frees k = willBeFree trace (placeOf s) k ≡ free k
+
+  moves-step : (k : Stage) → same k post ≡ false → Frees (nextIn (storeInMEM trace s) k) → Moves k
+  unfolding Moves Frees Said leaves
+  moves-step k n alike f =
+      said k f
+      ∙ ap₂ _and_
+      (ap (λ (b : Bool). eqb (standing trace s k .count) 0 and b) (asked-by-slots trace s o k (at k) (standing-fetched k f)) ∙ sym (goes-filled k f))
+      (ap (willBeFree trace (placeOf s)) (standing-next k) ∙ alike)
+      ∙ sym (moves-at (goes trace s) (occupied trace s) (storeInMEM trace s) k n)
 
   -- the test that the rules make of each instruction to see whether a stage will be free
-  asks : ℕ → Stage → ℕ → Bool
-  asks b k j = not (same (placeOf s j .stage) k) or movesWithin b trace (placeOf s) j
+  asks : Stage → ℕ → Bool
+  asks k j = not (same (placeOf s j .stage) k) or moves trace (placeOf s) j
 
   asked-filled :
-      (b : ℕ) (k : Stage) →
+      (k : Stage) →
       inside k ≡ true →
       slot s k .filled ≡ true →
-      every (asks b k) (length trace) ≡ movesWithin b trace (placeOf s) (slot s k .index)
+      every (asks k) (length trace) ≡ moves trace (placeOf s) (slot s k .index)
   unfolding asks
-  asked-filled b k w f = both-ways _ _ forth back
+  asked-filled k w f = both-ways _ _ forth back
     where
-      forth : every (asks b k) (length trace) ≡ true → movesWithin b trace (placeOf s) (slot s k .index) ≡ true
+      forth : every (asks k) (length trace) ≡ true → moves trace (placeOf s) (slot s k .index) ≡ true
       forth e =
           let h = slot-fetched trace s o k f in
           let n = o .fetched in
           implies _ _
-          (every-at (asks b k) (length trace) e (slot s k .index) (omega arith))
+          (every-at (asks k) (length trace) e (slot s k .index) (omega arith))
           (stage-same (placeOf s (slot s k .index) .stage) k (ap (λ (p : Place). p .stage) (place-held trace s o k (slot s k .index) f refl)))
 
-      back : movesWithin b trace (placeOf s) (slot s k .index) ≡ true → every (asks b k) (length trace) ≡ true
+      back : moves trace (placeOf s) (slot s k .index) ≡ true → every (asks k) (length trace) ≡ true
       back m =
-          every-below (asks b k) (length trace)
+          every-below (asks k) (length trace)
           (λ j l.
           implied _ _
           (λ e.
           let h = held-at trace s o k j w (same-stage (placeOf s j .stage) k e) in
-          subst (λ (i : ℕ). movesWithin b trace (placeOf s) i ≡ true) (held-index s j k h) m))
+          subst (λ (i : ℕ). moves trace (placeOf s) i ≡ true) (held-index s j k h) m))
 
-  asked-empty : (b : ℕ) (k : Stage) → inside k ≡ true → slot s k .filled ≡ false → every (asks b k) (length trace) ≡ true
+  asked-empty : (k : Stage) → inside k ≡ true → slot s k .filled ≡ false → every (asks k) (length trace) ≡ true
   unfolding asks
-  asked-empty b k w f =
-      every-below (asks b k) (length trace)
+  asked-empty k w f =
+      every-below (asks k) (length trace)
       (λ j l. implied _ _ (λ e. clash (held-filled s j k (held-at trace s o k j w (same-stage (placeOf s j .stage) k e))) f))
 
   -- a stage with a slot is free when the slot is empty or what it holds moves
-  asked :
-      (b : ℕ) (k : Stage) →
-      inside k ≡ true →
-      (standing trace s k .filled ≡ true → movesWithin b trace (placeOf s) (standing trace s k .index) ≡ movesBit b k) →
-      Value (slot s k .filled) →
-      every (asks b k) (length trace) ≡ not (occupied trace s k) or movesBit b k
-  unfolding occupied _or_
-  asked b k w move (passed f) =
+  asked-stage : (k : Stage) → inside k ≡ true → Moves k → Value (slot s k .filled) → every (asks k) (length trace) ≡ not (occupied trace s k) or leaves trace s k
+  unfolding Moves occupied _or_
+  asked-stage k w move (passed f) =
       let q = standing-slot trace s k w in
       let g = ap (λ (r : Slot). r .filled) q ∙ f in
-      asked-filled b k w f
-      ∙ ap (λ (r : Slot). movesWithin b trace (placeOf s) (r .index)) (sym q)
+      asked-filled k w f
+      ∙ ap (λ (r : Slot). moves trace (placeOf s) (r .index)) (sym q)
       ∙ move g
-      ∙ sym (ap (λ (full : Bool). not full or movesBit b k) g)
-  asked b k w move (failed f) =
+      ∙ sym (ap (λ (full : Bool). not full or leaves trace s k) g)
+  asked-stage k w move (failed f) =
       let g = ap (λ (r : Slot). r .filled) (standing-slot trace s k w) ∙ f in
-      asked-empty b k w f ∙ sym (ap (λ (full : Bool). not full or movesBit b k) g)
+      asked-empty k w f ∙ sym (ap (λ (full : Bool). not full or leaves trace s k) g)
 
-  free-step :
-      (b : ℕ) →
-      ((k : Stage) → standing trace s k .filled ≡ true → movesWithin b trace (placeOf s) (standing trace s k .index) ≡ movesBit b k) →
-      (k : Stage) →
-      same k pre ≡ false →
-      Value (same k post) →
-      willBeFreeWithin (suc b) trace (placeOf s) k ≡ freeBit (suc b) k
-  unfolding movesBit freeBit willBeFreeWithin freeIn asks
-  free-step b move k w (passed e) = or-l _ _ e ∙ sym (or-l _ _ e)
-  free-step b move k w (failed e) = ap (λ (t : Bool). same k post or t) (asked b k (between k w e) (move k) (value (slot s k .filled)))
+  -- and a stage will be free alike, if what stands there moves alike
+  frees-step : (k : Stage) → inside k ≡ true → Moves k → Frees k
+  unfolding Frees asks leaves
+  frees-step k w move =
+      budget-never-decides trace (placeOf s) .freeing k
+      ∙ ap (λ (t : Bool). same k post or t) (asked-stage k w move (value (slot s k .filled)))
+      ∙ sym (free-at (goes trace s) (occupied trace s) (storeInMEM trace s) k)
 
-  both :
-      (b : ℕ) →
-      ((k : Stage) → standing trace s k .filled ≡ true → movesWithin b trace (placeOf s) (standing trace s k .index) ≡ movesBit b k)
-      × ((k : Stage) → same k pre ≡ false → willBeFreeWithin b trace (placeOf s) k ≡ freeBit b k)
-  unfolding movesBit freeBit movesWithin willBeFreeWithin movesIn freeIn
-  both zero = (λ k f. refl, λ k w. refl)
-  both (suc b) = (moves-step b (both b .1), λ k w. free-step b (both b .0) k w (value (same k post)))
+  frees-post : Frees post
+  unfolding Frees
+  frees-post =
+      budget-never-decides trace (placeOf s) .freeing post
+      ∙ or-l _ _ refl
+      ∙ sym (free-at (goes trace s) (occupied trace s) (storeInMEM trace s) post ∙ or-l _ _ refl)
+
+  moves-ST : Moves ST
+  unfolding nextIn
+  moves-ST = moves-step ST refl frees-post
+
+  moves-WB : Moves WB
+  unfolding nextIn
+  moves-WB = moves-step WB refl frees-post
+
+  frees-last : (store : Bool) → Frees (cond store ST WB)
+  frees-last true = frees-step ST refl moves-ST
+  frees-last false = frees-step WB refl moves-WB
+
+  moves-MEM : Moves MEM
+  unfolding nextIn
+  moves-MEM = moves-step MEM refl (frees-last (storeInMEM trace s))
+
+  moves-EX : Moves EX
+  unfolding nextIn
+  moves-EX = moves-step EX refl (frees-step MEM refl moves-MEM)
+
+  moves-ID : Moves ID
+  unfolding nextIn
+  moves-ID = moves-step ID refl (frees-step EX refl moves-EX)
+
+  moves-IF : Moves IF
+  unfolding nextIn
+  moves-IF = moves-step IF refl (frees-step ID refl moves-ID)
+
+  moves-pre : Moves pre
+  unfolding nextIn
+  moves-pre = moves-step pre refl (frees-step IF refl moves-IF)
 
   -- the instruction in a stage moves by the rules exactly when it leaves by slots
   pub moves-by-slots : (k : Stage) → standing trace s k .filled ≡ true → moves trace (placeOf s) (standing trace s k .index) ≡ leaves trace s k
-  unfolding moves leaves movesAt movesBit
-  moves-by-slots k f =
-      ap (λ (p : Place). movesWithin (budget (p .stage)) trace (placeOf s) (standing trace s k .index)) (standing-place k f)
-      ∙ both (budget k) .0 k f
+  unfolding Moves standing
+  moves-by-slots pre = moves-pre
+  moves-by-slots IF = moves-IF
+  moves-by-slots ID = moves-ID
+  moves-by-slots EX = moves-EX
+  moves-by-slots MEM = moves-MEM
+  moves-by-slots ST = moves-ST
+  moves-by-slots WB = moves-WB
+  moves-by-slots post = λ f. clash f refl
 
   -- of those in pre only the next to be fetched may move, since for all others an older one is in pre
   behind : (i : ℕ) → s .fetched < i → readyIn pre trace (placeOf s) i ≡ false

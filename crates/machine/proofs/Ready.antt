@@ -1,4 +1,4 @@
--- Ready, by slots: in an orderly state the older instructions that can hold another back are in slots.
+-- What a cycle asks, by slots: in an orderly state the older instructions that can hold another back are in slots.
 use Prim.Native.Nat.{ℕ, _≤_, _<_}
 use native.Mathlib.Omega.{arith}
 use mathlib.Core.Bool.{Bool, true, false, not}
@@ -6,17 +6,17 @@ use mathlib.Core.Path.{_≡_, refl, ap, subst, _∙_}
 use borrow.Author.Tests.{ltb-true, lt-ltb, not-true}
 use Rattle.machine.specs.Test.{_and_, _or_, none}
 use Rattle.machine.specs.Instruction.{Kind, Trace, instruction}
-use Rattle.machine.specs.Rules.{Stage, pre, IF, ID, EX, MEM, ST, WB, post, same, Place, Places, further, shortOf, noOlder, readyIn, ready}
+use Rattle.machine.specs.Rules.{Stage, pre, IF, ID, EX, MEM, ST, WB, post, same, Place, Places, further, shortOf, noOlder}
 use Rattle.machine.specs.State.{slot, placeOf, Orderly}
 use Rattle.machine.specs.declared.State.{State}
 use Rattle.machine.proofs.Connectives.{clash, Value, passed, failed, value, both-ways, and-l, and-r, and-both, and-failed-l, or-left, or-failed, or-failed-l, or-failed-r, none-at, none-below, none-same}
 use Rattle.machine.proofs.Stages.{eight}
 use Rattle.machine.proofs.Spots.{Spot, waiting, held, left, spot, place-held, not-waiting}
 use Rattle.machine.proofs.Doing.{Does, holding, loading, storing, nothing, does}
-use Rattle.machine.proofs.Hazards.{goalOf, goal, pendingTo, pending, queues, holds, ready-holds}
+use Rattle.machine.proofs.Hazards.{goalOf, goal, pendingTo, pending, queues, detains, asked, asked-detains}
 use Rattle.machine.proofs.BySlots.{holdsBack, heldBack}
 
--- where no older instruction is in pre, ready is whether one is waited for
+-- where no older instruction is in pre, what a cycle asks is whether one is waited for
 not-queuing : (k : Stage) (p : Place) → same (p .stage) pre ≡ false → queues k p ≡ false
 unfolding queues
 not-queuing pre p e = e
@@ -28,13 +28,13 @@ not-queuing ST p e = refl
 not-queuing WB p e = refl
 not-queuing post p e = refl
 
-ready-waits : (trace : Trace) (places : Places) (i : ℕ) →
+asked-waits : (trace : Trace) (places : Places) (i : ℕ) →
     ((j : ℕ) → j < i → same (places j .stage) pre ≡ false) →
     (k : Stage) →
-    readyIn k trace places i ≡ noOlder trace places i (holds k (instruction trace i))
+    asked trace places i k ≡ noOlder trace places i (detains k (instruction trace i))
 unfolding noOlder
-ready-waits trace places i fetched k =
-    ready-holds trace places i k ∙ none-same _ _ i (λ j l. or-left _ _ (not-queuing k (places j) (fetched j l)))
+asked-waits trace places i fetched k =
+    asked-detains trace places i k ∙ none-same _ _ i (λ j l. or-left _ _ (not-queuing k (places j) (fetched j l)))
 
 -- one that has left is not pending
 left-goal : {h l s : Bool} → Does h l s → pendingTo (goalOf h l s) (record { stage = post; count = 0 }) ≡ false
@@ -50,11 +50,11 @@ pending-left kind = left-goal (does kind)
 
 module _ (trace : Trace) (s : State) (o : Orderly trace s) (k : Stage) (i : ℕ) where
   test : ℕ → Place → Bool
-  test j p = holds k (instruction trace i) (instruction trace j) p
+  test j p = detains k (instruction trace i) (instruction trace j) p
 
   -- where no older instruction is waited for, no slot holds the instruction back
   slot-waits :
-      noOlder trace (placeOf s) i (holds k (instruction trace i)) ≡ true →
+      noOlder trace (placeOf s) i (detains k (instruction trace i)) ≡ true →
       (at : Stage) →
       Value (holdsBack trace k i at (slot s at)) →
       holdsBack trace k i at (slot s at) ≡ false
@@ -97,11 +97,11 @@ module _ (trace : Trace) (s : State) (o : Orderly trace s) (k : Stage) (i : ℕ)
   unfolding test
   spot-waits h e j l (waiting w) = absurd (omega arith)
   spot-waits h e j l (held at w f d) =
-      subst (λ (j : ℕ). holds k (instruction trace i) (instruction trace j) (record { stage = at; count = slot s at .count }) ≡ false) d
+      subst (λ (j : ℕ). detains k (instruction trace i) (instruction trace j) (record { stage = at; count = slot s at .count }) ≡ false) d
       (not-held at f (omega arith) (no-slot e at) (value _))
   spot-waits h e j l (left w none) = and-failed-l _ _ (pending-left (instruction trace j .kind))
 
-  waits-by-slots : i ≤ s .fetched → noOlder trace (placeOf s) i (holds k (instruction trace i)) ≡ not (heldBack trace s k i)
+  waits-by-slots : i ≤ s .fetched → noOlder trace (placeOf s) i (detains k (instruction trace i)) ≡ not (heldBack trace s k i)
   unfolding noOlder heldBack test
   waits-by-slots h = both-ways _ _ forth back
     where
@@ -113,10 +113,7 @@ module _ (trace : Trace) (s : State) (o : Orderly trace s) (k : Stage) (i : ℕ)
       back : not (heldBack trace s k i) ≡ true → none (λ j. test j (placeOf s j)) i ≡ true
       back e = none-below _ i (λ j l. spot-waits h (not-true _ e) j l (spot s j))
 
-  -- an instruction that is fetched, or the next to be fetched, is ready exactly when no slot holds it back
-  pub ready-by-slots : i ≤ s .fetched → placeOf s i .stage ≡ k → ready trace (placeOf s) i ≡ not (heldBack trace s k i)
-  unfolding ready noOlder
-  ready-by-slots h e =
-      ap (λ (k : Stage). readyIn k trace (placeOf s) i) e
-      ∙ ready-waits trace (placeOf s) i (λ j l. not-waiting trace s o j (omega arith)) k
-      ∙ waits-by-slots h
+  -- of an instruction that is fetched, or the next to be fetched, a cycle asks exactly whether no slot holds it back
+  pub asked-by-slots : i ≤ s .fetched → asked trace (placeOf s) i k ≡ not (heldBack trace s k i)
+  unfolding noOlder
+  asked-by-slots h = asked-waits trace (placeOf s) i (λ j l. not-waiting trace s o j (omega arith)) k ∙ waits-by-slots h

@@ -14,7 +14,7 @@ use Rattle.machine.specs.declared.Slot.{Slot}
 use Rattle.machine.specs.declared.State.{State}
 use Rattle.machine.proofs.Connectives.{clash, Value, passed, failed, value, and-l, and-r, and-both, and-true, or-failed, and-failed-r, or-l}
 use Rattle.machine.proofs.Stages.{eight, inside}
-use Rattle.machine.proofs.Hazards.{waitsFor}
+use Rattle.machine.proofs.Hazards.{waitsFor, asksFor}
 use Rattle.machine.proofs.BySlots.{standing, holdsBack, heldBack, goes, occupied, storeInMEM, nextIn, moves-at, free-at, leaves, stageBefore, takes, arrives, stepBySlots}
 use Rattle.machine.proofs.Flow.{After, came, stayed, vacant, after-cycle, leaves-filled, bit, fetched-after, younger-after}
 
@@ -78,7 +78,7 @@ module _ (trace : Trace) (s : State) (o : Orderly trace s) where
 
   -- an instruction in WB always moves on
   free-WB : (k : Stage) (held : Slot) → holdsBack trace WB (s .WB .index) k held ≡ false
-  unfolding holdsBack waitsFor
+  unfolding holdsBack asksFor waitsFor
   free-WB k held = and-failed-r _ _ (and-failed-r _ _ refl)
 
   leaves-WB : s .WB .filled ≡ true → leaves trace s WB ≡ true

@@ -10,7 +10,7 @@ use Rattle.machine.specs.declared.Slot.{Slot}
 use Rattle.machine.specs.declared.State.{State}
 use Rattle.machine.proofs.Connectives.{Value, passed, failed, value, and-failed-l, and-failed-r, and-true, or-failed}
 use Rattle.machine.proofs.BySlots.{holdsBack, heldBack}
-use Rattle.machine.proofs.Hazards.{pending, waitsFor}
+use Rattle.machine.proofs.Hazards.{pending, asksFor}
 use Rattle.record.specs.declared.layout.Fields.{Fields}
 use Rattle.record.specs.Rules.{instructionOf}
 use Rattle.starting.specs.Inner.{pendingSlot}
@@ -38,7 +38,7 @@ pub holds
     this ≡ instruction trace i →
     (held .filled ≡ true → that ≡ instruction trace (held .index)) →
     pending ≡ pendingSlot trace k held →
-    r ≡ (pending and ltb (held .index) i and waitsFor at this that) →
+    r ≡ (pending and ltb (held .index) i and asksFor at this that) →
     r ≡ holdsBack trace at i k held
 unfolding holdsBack
 holds trace at i k held {pending} {r} {this} {that} e f p q = by (value (held .filled))
@@ -62,7 +62,7 @@ held-by trace s at i p q r t u v = either-of (either-of (either-of (either-of (e
 
 -- the stages where nothing waits
 abbrev pub never : Stage → Type 0
-never at = (i j : Instruction) → waitsFor at i j ≡ false
+never at = (i j : Instruction) → asksFor at i j ≡ false
 
 module _ (trace : Trace) (s : State) (at : Stage) (i : ℕ) (free : never at) where
   holds-none : (k : Stage) (held : Slot) → holdsBack trace at i k held ≡ false

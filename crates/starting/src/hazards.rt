@@ -7,7 +7,7 @@ ghost use Rattle.machine.specs.Instruction.{Trace, instruction};
 ghost use Rattle.machine.specs.declared.State.{State};
 ghost use Rattle.machine.proofs.Stages.{stageAt};
 ghost use Rattle.machine.proofs.BySlots.{heldBack};
-ghost use Rattle.machine.proofs.Hazards.{pending, waitsFor};
+ghost use Rattle.machine.proofs.Hazards.{pending, asksFor};
 ghost use Rattle.record.specs.Rules.{instructionOf};
 ghost use Rattle.standing.specs.Inner.{Reads};
 ghost use Rattle.moving.specs.Inner.{bitsOf};
@@ -52,7 +52,7 @@ pub(crate) fn pending_slots(s: State, w: Standing) -> Bits
 // The instruction at index `other`, with fields j, is pending and holds back instruction `index`,
 // with fields i, at this stage.
 fn holds_back(stage: u32, i: Fields, index: u32, pending: bool, other: u32, j: Fields) -> bool
-    ensures { λ r. ⌜ r ≡ (pending and ltb other index and waitsFor (stageAt stage) (instructionOf i) (instructionOf j)) ⌝ }
+    ensures { λ r. ⌜ r ≡ (pending and ltb other index and asksFor (stageAt stage) (instructionOf i) (instructionOf j)) ⌝ }
 {
     pending & (other < index) & waits_for(stage, i, j)
 }

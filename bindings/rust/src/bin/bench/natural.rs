@@ -62,13 +62,10 @@ impl Instruction {
         }
     }
 
-    /// A store's second source is its value, which it needs only in EX.
+    /// A store's second source is its value, which it needs only in EX. There neither the times nor a cycle ask for it: its load, if
+    /// it is not done, keeps MEM busy (`ValueNeverDecides`).
     fn reads_in_id(&self, register: u8) -> bool {
         register != 0 && (self.source1 == register || self.kind != STORE && self.source2 == register)
-    }
-
-    fn reads_in_ex(&self, register: u8) -> bool {
-        register != 0 && self.kind == STORE && self.source2 == register
     }
 }
 
@@ -132,8 +129,7 @@ struct Window {
     finish: u32,
 }
 
-/// When the instruction enters IF, ID, EX, MEM, its last stage and post. A store's value is not asked for: its load, if it is
-/// not done, keeps MEM busy (`ValueNeverDecides`).
+/// When the instruction enters IF, ID, EX, MEM, its last stage and post.
 fn times(w: &Window, i: &Instruction) -> [u32; 6] {
     let memory = if i.fetch == 0 { 0 } else { w.load_done.max(w.store_done) };
     let at_if = w.id.max(1).max(w.branch_done).max(memory);
@@ -288,7 +284,7 @@ fn held_back(body: &[u8], s: &State, level: u32, k: u32) -> bool {
             && match level {
                 0 => j.kind == BRANCH || i.fetch != 0,
                 2 => j.kind == LOAD && i.reads_in_id(j.target),
-                _ => j.kind == STORE && i.access == 1 || j.kind == LOAD && i.reads_in_ex(j.target),
+                _ => j.kind == STORE && i.access == 1,
             }
     })
 }

@@ -1,7 +1,7 @@
 -- `waits_for` meets its contract: pre, ID and EX by their rules; elsewhere nothing waits.
 use mathlib.Core.Bool.{not}
 use mathlib.Core.Path.{sym, ap}
-use Rattle.machine.proofs.Hazards.{waitsFor}
+use Rattle.machine.proofs.Hazards.{waitsFor, asksFor}
 use Rattle.record.specs.Rules.{instructionOf}
 use Rattle.decode.proofs.Joined.{both-of, either-of}
 use Rattle.decode.proofs.Elsewhere.{waits-elsewhere}
@@ -15,7 +15,7 @@ fetch-hits-requires : tie.Need-fetch-hits-requires
 fetch-hits-requires c κs = tt
 
 returns : tie.Need-returns
-unfolding waitsFor
+unfolding asksFor waitsFor
 returns c = rw (c .before .before .if1 .taken) (either-of (c .before .holds-fetches .ensures) (ap not (c .fetch-hits .ensures)))
 
 is-load-requires : tie.Need-is-load-requires
@@ -25,7 +25,7 @@ reads-in-id-requires : tie.Need-reads-in-id-requires
 reads-in-id-requires c κs = tt
 
 returns-2 : tie.Need-returns-2
-unfolding waitsFor instructionOf
+unfolding asksFor waitsFor instructionOf
 returns-2 c = rw (c .before .before .if2 .taken) (both-of (c .before .is-load .ensures) (c .reads-in-id .ensures))
 
 is-store-requires : tie.Need-is-store-requires
@@ -34,20 +34,9 @@ is-store-requires c κs = tt
 misses-data-requires : tie.Need-misses-data-requires
 misses-data-requires c κs = tt
 
-is-load-requires-2 : tie.Need-is-load-requires-2
-is-load-requires-2 c κs = tt
-
-reads-in-ex-requires : tie.Need-reads-in-ex-requires
-reads-in-ex-requires c κs = tt
-
 returns-3 : tie.Need-returns-3
-unfolding waitsFor instructionOf
-returns-3 c =
-    let c3 = c .before .before .before in
-    rw (c3 .before .if3 .taken)
-    (either-of
-    (both-of (c3 .is-store .ensures) (c .before .before .misses-data .ensures))
-    (both-of (c .before .is-load2 .ensures) (c .reads-in-ex .ensures)))
+unfolding asksFor
+returns-3 c = rw (c .before .before .if3 .taken) (both-of (c .before .is-store .ensures) (c .misses-data .ensures))
 
 returns-4 : tie.Need-returns-4
 returns-4 c = sym (waits-elsewhere _ (c .before .before .if1 .left) (c .before .if2 .left) (c .if3 .left) _ _)
@@ -64,7 +53,5 @@ waits-for-spec =
     returns-2
     is-store-requires
     misses-data-requires
-    is-load-requires-2
-    reads-in-ex-requires
     returns-3
     returns-4)

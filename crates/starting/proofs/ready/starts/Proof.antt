@@ -6,7 +6,7 @@ use Rattle.machine.specs.Rules.{pre, IF, MEM, ST, WB}
 use Rattle.machine.specs.Test.{_and_}
 use Rattle.machine.proofs.Connectives.{and-true}
 use Rattle.machine.proofs.BySlots.{standing, heldBack, goes}
-use Rattle.machine.proofs.Hazards.{waitsFor}
+use Rattle.machine.proofs.Hazards.{waitsFor, asksFor}
 use Rattle.starting.specs.Inner.{opens, starts}
 use Rattle.moving.proofs.Seven.{bits-are}
 use Rattle.starting.proofs.Held.{goes-free}
@@ -42,7 +42,7 @@ counted-down-requires-4 : tie.Need-counted-down-requires-4
 counted-down-requires-4 c κs = tt
 
 returns : tie.Need-returns
-unfolding standing goes waitsFor
+unfolding standing goes asksFor waitsFor
 returns c =
     λ trace h e.
     let c3 = c .before .before .before in
