@@ -167,24 +167,24 @@ module _ (trace : Trace) (places : Places) (i : ℕ) where
   ready-holds WB = never _
   ready-holds post = never _
 
-  -- what a cycle asks of an instruction in a stage: whether it is ready, but for a store's value
-  unfoldable pub asked : Stage → Bool
-  asked pre = readyIn pre trace places i
-  asked IF = readyIn IF trace places i
-  asked ID = readyIn ID trace places i
-  asked EX = accessReady trace places i
-  asked MEM = readyIn MEM trace places i
-  asked ST = readyIn ST trace places i
-  asked WB = readyIn WB trace places i
-  asked post = readyIn post trace places i
+  -- ready, as far as a cycle has to ask
+  unfoldable pub readyAsked : Stage → Bool
+  readyAsked pre = readyIn pre trace places i
+  readyAsked IF = readyIn IF trace places i
+  readyAsked ID = readyIn ID trace places i
+  readyAsked EX = accessReady trace places i
+  readyAsked MEM = readyIn MEM trace places i
+  readyAsked ST = readyIn ST trace places i
+  readyAsked WB = readyIn WB trace places i
+  readyAsked post = readyIn post trace places i
 
-  pub asked-detains : (k : Stage) → asked k ≡ none (λ j. queues k (places j) or detains k (instruction trace i) (instruction trace j) (places j)) i
-  unfolding asked asksFor queues _or_
-  asked-detains pre = ready-holds pre
-  asked-detains IF = ready-holds IF
-  asked-detains ID = ready-holds ID
-  asked-detains EX = access-asked
-  asked-detains MEM = ready-holds MEM
-  asked-detains ST = ready-holds ST
-  asked-detains WB = ready-holds WB
-  asked-detains post = ready-holds post
+  pub ready-detains : (k : Stage) → readyAsked k ≡ none (λ j. queues k (places j) or detains k (instruction trace i) (instruction trace j) (places j)) i
+  unfolding readyAsked asksFor queues _or_
+  ready-detains pre = ready-holds pre
+  ready-detains IF = ready-holds IF
+  ready-detains ID = ready-holds ID
+  ready-detains EX = access-asked
+  ready-detains MEM = ready-holds MEM
+  ready-detains ST = ready-holds ST
+  ready-detains WB = ready-holds WB
+  ready-detains post = ready-holds post

@@ -13,13 +13,13 @@ use Rattle.machine.specs.State.{slot, placeOf, Orderly}
 use Rattle.machine.specs.declared.Slot.{Slot}
 use Rattle.machine.specs.declared.State.{State}
 use Rattle.machine.proofs.Connectives.{clash, Value, passed, failed, value, both-ways, and-failed-l, and-failed-r, implied, implies, or-l, true-and, every-at, every-below, none-fails}
-use Rattle.machine.proofs.Stages.{same-stage, stage-same, inside, between}
+use Rattle.machine.proofs.Stages.{same-stage, stage-same, inside}
 use Rattle.machine.proofs.Spots.{held-filled, held-index, held-at, slot-fetched, place-held, place-waiting}
 use Rattle.machine.proofs.Doing.{after-MEM}
 use Rattle.machine.proofs.BySlots.{standing, heldBack, goes, occupied, storeInMEM, nextIn, freeAt, moves-at, free-at, leaves}
 use Rattle.machine.proofs.Budget.{budget-never-decides}
-use Rattle.machine.proofs.Hazards.{asked}
-use Rattle.machine.proofs.Ready.{asked-by-slots}
+use Rattle.machine.proofs.Hazards.{readyAsked}
+use Rattle.machine.proofs.Ready.{ready-by-slots}
 use Rattle.machine.proofs.LateValue.{value-never-decides}
 
 pub standing-slot : (trace : Trace) (s : State) (k : Stage) → inside k ≡ true → standing trace s k ≡ slot s k
@@ -81,10 +81,15 @@ module _ (trace : Trace) (s : State) (o : Orderly trace s) where
   Said k =
       moves trace (placeOf s) (at k)
       ≡ (eqb (standing trace s k .count) 0
-      and asked trace (placeOf s) (at k) k
+      and readyAsked trace (placeOf s) (at k) k
       and willBeFree trace (placeOf s) (next (instruction trace (at k) .kind) k))
 
-  as-ready : (k : Stage) → same k post ≡ false → asked trace (placeOf s) (at k) k ≡ readyIn k trace (placeOf s) (at k) → standing trace s k .filled ≡ true → Said k
+  as-ready :
+      (k : Stage) →
+      same k post ≡ false →
+      readyAsked trace (placeOf s) (at k) k ≡ readyIn k trace (placeOf s) (at k) →
+      standing trace s k .filled ≡ true →
+      Said k
   unfolding Said ready
   as-ready k n e f =
       budget-never-decides trace (placeOf s) .moving (at k)
@@ -98,7 +103,7 @@ module _ (trace : Trace) (s : State) (o : Orderly trace s) where
       ∙ rw (n, true-and, e)
 
   said : (k : Stage) → standing trace s k .filled ≡ true → Said k
-  unfolding Said asked standing next
+  unfolding Said readyAsked standing next
   said pre f = as-ready pre refl refl f
   said IF f = as-ready IF refl refl f
   said ID f = as-ready ID refl refl f
@@ -130,7 +135,7 @@ module _ (trace : Trace) (s : State) (o : Orderly trace s) where
   moves-step k n alike f =
       said k f
       ∙ ap₂ _and_
-      (ap (λ (b : Bool). eqb (standing trace s k .count) 0 and b) (asked-by-slots trace s o k (at k) (standing-fetched k f)) ∙ sym (goes-filled k f))
+      (ap (λ (b : Bool). eqb (standing trace s k .count) 0 and b) (ready-by-slots trace s o k (at k) (standing-fetched k f)) ∙ sym (goes-filled k f))
       (ap (willBeFree trace (placeOf s)) (standing-next k) ∙ alike)
       ∙ sym (moves-at (goes trace s) (occupied trace s) (storeInMEM trace s) k n)
 
@@ -170,16 +175,21 @@ module _ (trace : Trace) (s : State) (o : Orderly trace s) where
       (λ j l. implied _ _ (λ e. clash (held-filled s j k (held-at trace s o k j w (same-stage (placeOf s j .stage) k e))) f))
 
   -- a stage with a slot is free when the slot is empty or what it holds moves
-  asked-stage : (k : Stage) → inside k ≡ true → Moves k → Value (slot s k .filled) → every (asks k) (length trace) ≡ not (occupied trace s k) or leaves trace s k
+  asked :
+      (k : Stage) →
+      inside k ≡ true →
+      Moves k →
+      Value (slot s k .filled) →
+      every (asks k) (length trace) ≡ not (occupied trace s k) or leaves trace s k
   unfolding Moves occupied _or_
-  asked-stage k w move (passed f) =
+  asked k w move (passed f) =
       let q = standing-slot trace s k w in
       let g = ap (λ (r : Slot). r .filled) q ∙ f in
       asked-filled k w f
       ∙ ap (λ (r : Slot). moves trace (placeOf s) (r .index)) (sym q)
       ∙ move g
       ∙ sym (ap (λ (full : Bool). not full or leaves trace s k) g)
-  asked-stage k w move (failed f) =
+  asked k w move (failed f) =
       let g = ap (λ (r : Slot). r .filled) (standing-slot trace s k w) ∙ f in
       asked-empty k w f ∙ sym (ap (λ (full : Bool). not full or leaves trace s k) g)
 
@@ -188,7 +198,7 @@ module _ (trace : Trace) (s : State) (o : Orderly trace s) where
   unfolding Frees asks leaves
   frees-step k w move =
       budget-never-decides trace (placeOf s) .freeing k
-      ∙ ap (λ (t : Bool). same k post or t) (asked-stage k w move (value (slot s k .filled)))
+      ∙ ap (λ (t : Bool). same k post or t) (asked k w move (value (slot s k .filled)))
       ∙ sym (free-at (goes trace s) (occupied trace s) (storeInMEM trace s) k)
 
   frees-post : Frees post

@@ -1,4 +1,4 @@
--- What a cycle asks, by slots: in an orderly state the older instructions that can hold another back are in slots.
+-- Ready, by slots, as far as a cycle has to ask: in an orderly state the older instructions that can hold another back are in slots.
 use Prim.Native.Nat.{ℕ, _≤_, _<_}
 use native.Mathlib.Omega.{arith}
 use mathlib.Core.Bool.{Bool, true, false, not}
@@ -13,10 +13,10 @@ use Rattle.machine.proofs.Connectives.{clash, Value, passed, failed, va
 use Rattle.machine.proofs.Stages.{eight}
 use Rattle.machine.proofs.Spots.{Spot, waiting, held, left, spot, place-held, not-waiting}
 use Rattle.machine.proofs.Doing.{Does, holding, loading, storing, nothing, does}
-use Rattle.machine.proofs.Hazards.{goalOf, goal, pendingTo, pending, queues, detains, asked, asked-detains}
+use Rattle.machine.proofs.Hazards.{goalOf, goal, pendingTo, pending, queues, detains, readyAsked, ready-detains}
 use Rattle.machine.proofs.BySlots.{holdsBack, heldBack}
 
--- where no older instruction is in pre, what a cycle asks is whether one is waited for
+-- where no older instruction is in pre, ready is whether one is waited for
 not-queuing : (k : Stage) (p : Place) → same (p .stage) pre ≡ false → queues k p ≡ false
 unfolding queues
 not-queuing pre p e = e
@@ -28,13 +28,13 @@ not-queuing ST p e = refl
 not-queuing WB p e = refl
 not-queuing post p e = refl
 
-asked-waits : (trace : Trace) (places : Places) (i : ℕ) →
+ready-waits : (trace : Trace) (places : Places) (i : ℕ) →
     ((j : ℕ) → j < i → same (places j .stage) pre ≡ false) →
     (k : Stage) →
-    asked trace places i k ≡ noOlder trace places i (detains k (instruction trace i))
+    readyAsked trace places i k ≡ noOlder trace places i (detains k (instruction trace i))
 unfolding noOlder
-asked-waits trace places i fetched k =
-    asked-detains trace places i k ∙ none-same _ _ i (λ j l. or-left _ _ (not-queuing k (places j) (fetched j l)))
+ready-waits trace places i fetched k =
+    ready-detains trace places i k ∙ none-same _ _ i (λ j l. or-left _ _ (not-queuing k (places j) (fetched j l)))
 
 -- one that has left is not pending
 left-goal : {h l s : Bool} → Does h l s → pendingTo (goalOf h l s) (record { stage = post; count = 0 }) ≡ false
@@ -113,7 +113,7 @@ module _ (trace : Trace) (s : State) (o : Orderly trace s) (k : Stage) (i : ℕ)
       back : not (heldBack trace s k i) ≡ true → none (λ j. test j (placeOf s j)) i ≡ true
       back e = none-below _ i (λ j l. spot-waits h (not-true _ e) j l (spot s j))
 
-  -- of an instruction that is fetched, or the next to be fetched, a cycle asks exactly whether no slot holds it back
-  pub asked-by-slots : i ≤ s .fetched → asked trace (placeOf s) i k ≡ not (heldBack trace s k i)
+  -- an instruction that is fetched, or the next to be fetched, is ready, as far as a cycle has to ask, exactly when no slot holds it back
+  pub ready-by-slots : i ≤ s .fetched → readyAsked trace (placeOf s) i k ≡ not (heldBack trace s k i)
   unfolding noOlder
-  asked-by-slots h = asked-waits trace (placeOf s) i (λ j l. not-waiting trace s o j (omega arith)) k ∙ waits-by-slots h
+  ready-by-slots h = ready-waits trace (placeOf s) i (λ j l. not-waiting trace s o j (omega arith)) k ∙ waits-by-slots h
