@@ -1,4 +1,4 @@
-// The second model of the in-order core: the cycle rules and the checks of the document, read
+// The second model of the in-order core: the cycle rules and the checks of the documents, read
 // literally, for programs that compare the engine with it. It shares no code with the engine.
 mod body;
 mod job;
