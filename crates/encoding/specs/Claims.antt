@@ -14,8 +14,8 @@ use Rattle.encoding.specs.Encoding.{recordOf, bodyOf}
 use Rattle.record.specs.Refusal.{unknownFlag}
 use Rattle.encoding.specs.Cases.{bytesOfD, casesAccepted}
 
--- Traces are accepted at all: A to L, and the cases that they do not show, those of document 02, F-3, among them. Were the rules of a record to refuse everything, what is claimed of
--- accepted bodies would hold and say nothing.
+-- Traces are accepted at all: A to L, and the cases that they do not show, those of document 02, F-3, among them. Were the rules of a record to
+-- refuse everything, what is claimed of accepted bodies would hold and say nothing.
 abbrev pub CasesAccepted : Type 0
 CasesAccepted = T (casesAccepted (cases ++ further ++ lateValues))
 
