@@ -113,8 +113,8 @@ module _ (trace : Trace) where
       (waits-for 3 (instruction trace k) (instruction trace j) (or-l _ _ (and-both _ _ f e)) (store-goal (instruction trace j .kind) f))
       (wait b k j 3 l)))
 
-  -- A load short of (MEM, 0) keeps MEM busy: every older instruction is done there by the time that the one directly before leaves it. So a store's wait for
-  -- its second source never decides when it enters MEM; `ValueNeverDecides` says the same of the cycle from any orderly state.
+  -- A load short of (MEM, 0) keeps MEM busy: every older instruction is done there by the time that the one directly before leaves it. So a store's
+  -- wait for its second source never decides when it enters MEM; `ValueNeverDecides` says the same of the cycle from any orderly state.
   value-in-time : (k j : ℕ) → j < k → done b j 4 ≤ previous b k 5
   value-in-time k j l = omega (arith, own b j 4, le-previous b k j 4 l (omega arith) (omega arith))
 
