@@ -46,14 +46,15 @@ enum sic_refusal {
     SIC_WRONG_RECORDS = 13,   /* the records are not ten bytes for each instruction counted */
     SIC_SHORT_OUTPUT = 14,    /* the output is shorter than the file */
     SIC_LONG_WAIT = 15,       /* a counted latency plus the wait exceeds 65,535 */
-    SIC_SHORT_LIST = 16       /* the list has fewer places than there are traces */
+    SIC_SHORT_LIST = 16,      /* the list has fewer places than there are traces */
+    SIC_LONG_HIT = 17         /* a data hit takes more than 15 cycles, or no fewer than a load's or store's data latency */
 };
 
 #define SIC_MAX_INSTRUCTIONS 4096
 #define SIC_MAX_FILE_BYTES 65536
 #define SIC_MAX_TRACES 16
 #define SIC_CHART_BYTES (25 + 1001 * 143 + 33) /* the header, rows 0 to 1,000, the last line */
-#define SIC_REPORT_BYTES (17 * 78 + 39) /* the header and 16 lines, the last line */
+#define SIC_REPORT_BYTES (17 * 78 + 33 + 39) /* the header and 16 lines, the cycles of a data hit, the last line */
 
 /* A stage's slot: empty, with index and count 0, or an instruction and its remaining count. */
 typedef struct {
@@ -159,45 +160,52 @@ sic_read sic_record(const uint8_t *body, size_t body_length, uint32_t k);
 /* Everything in pre. */
 sic_state sic_start(void);
 
-/* Step: the state one cycle on, or the state given. 10, 8, 11, 12. */
-sic_stepped sic_step(const uint8_t *body, size_t body_length, sic_state state);
+/* `hit_cycles`, in each call that times something: how many cycles more the core spends on a data hit, 0 to 15; 0 for cores
+ * whose data hits take no cycles. A load that hits enters MEM with that count, and a store that hits enters ST with it. 17
+ * is given where it is above 15, even if there is no instruction, and where the data latency of a load or store, whatever
+ * its flag, is not above it. */
+
+/* Step: the state one cycle on, or the state given, whose counts are judged by `hit_cycles`. 10, 8, 17, 11, 12. */
+sic_stepped sic_step(const uint8_t *body, size_t body_length, sic_state state, uint32_t hit_cycles);
 
 /* The same in the caller's own storage, where the fields of a refused state stay as they were; the refusal number. */
-uint32_t sic_advance(sic_state *state, const uint8_t *body, size_t body_length);
+uint32_t sic_advance(sic_state *state, const uint8_t *body, size_t body_length, uint32_t hit_cycles);
 
-/* Run: at most `limit` cycles from the start. 10, 8, 11. */
-sic_ran sic_run(const uint8_t *body, size_t body_length, uint32_t limit);
+/* Run: at most `limit` cycles from the start. 10, 8, 17, 11. */
+sic_ran sic_run(const uint8_t *body, size_t body_length, uint32_t limit, uint32_t hit_cycles);
 
-/* Finish: the finishing time. 10, 8, 11. */
-sic_finished sic_finish(const uint8_t *body, size_t body_length);
+/* Finish: the finishing time. 10, 8, 17, 11. */
+sic_finished sic_finish(const uint8_t *body, size_t body_length, uint32_t hit_cycles);
 
-/* Best and worst, over all settlings of the unknown flags. 10, 8. */
-sic_best_and_worst sic_best_worst(const uint8_t *body, size_t body_length);
+/* Best and worst, over all settlings of the unknown flags. 10, 8, 17. */
+sic_best_and_worst sic_best_worst(const uint8_t *body, size_t body_length, uint32_t hit_cycles);
 
-/* Margin: deadline minus worst. 10, 8. */
-sic_deadline_margin sic_margin(const uint8_t *body, size_t body_length, uint32_t deadline);
+/* Margin: deadline minus worst. 10, 8, 17. */
+sic_deadline_margin sic_margin(const uint8_t *body, size_t body_length, uint32_t deadline, uint32_t hit_cycles);
 
-/* Alike: whether the finishing times are equal. 10, 8, 11 of the first, then of the second. */
-sic_likeness sic_alike(const uint8_t *first, size_t first_length, const uint8_t *second, size_t second_length);
+/* Alike: whether the finishing times are equal. 10, 8, 17, 11 of the first, then of the second. */
+sic_likeness sic_alike(const uint8_t *first, size_t first_length, const uint8_t *second, size_t second_length, uint32_t hit_cycles);
 
 /* Time on a shared bus, where other cores make each memory access wait for at most `wait` cycles: worst plus
  * `wait` for each access counted. No settling of the flags finishes later, whichever waits from 0 to `wait`
- * are added to its misses. 10, 8, 15, which is judged on the counted accesses alone. */
-sic_time_on_bus sic_bus_time(const uint8_t *body, size_t body_length, uint16_t wait);
+ * are added to its misses. 10, 8, 17, 15, which is judged on the counted accesses alone. */
+sic_time_on_bus sic_bus_time(const uint8_t *body, size_t body_length, uint16_t wait, uint32_t hit_cycles);
 
 /* A whole job in one call: the worst time of each trace of the file, in the traces' order, in the first places of
  * `times`, as Open and Best and worst give it for each trace alone. The places after them keep their values.
- * `times_length` counts places, not bytes; SIC_MAX_TRACES are enough for every file. 1 to 8, as Open; then 16. */
-sic_whole_job sic_worst_times(const uint8_t *file, size_t file_length, uint32_t *times, size_t times_length);
+ * `times_length` counts places, not bytes; SIC_MAX_TRACES are enough for every file. 1 to 8, as Open; then 17 of any
+ * trace, then 16. */
+sic_whole_job sic_worst_times(const uint8_t *file, size_t file_length, uint32_t *times, size_t times_length, uint32_t hit_cycles);
 
-/* The chart of the file's first trace as text, or the line that tells the refusal; its length. An
- * output of fewer than SIC_CHART_BYTES bytes stays as it is, and the length is 0. */
+/* The chart of the file's first trace as text, or the line that tells the refusal; its length. Its data hits take no
+ * cycles. An output of fewer than SIC_CHART_BYTES bytes stays as it is, and the length is 0. */
 size_t sic_chart(const uint8_t *file, size_t file_length, uint8_t *out, size_t out_length);
 
-/* The report of the file as text: a line for each trace with its margin, then how many deadlines are
- * met. `deadlines` has one for all traces or one for each; where it has not, or `out` has fewer than
- * SIC_REPORT_BYTES bytes, the output stays as it is and the length is 0. 1 to 8, as Open. */
-sic_reported sic_report(const uint8_t *file, size_t file_length, const uint32_t *deadlines, size_t deadlines_length, uint8_t *out, size_t out_length);
+/* The report of the file as text: a line for each trace with its margin, then the cycles of a data hit where it takes
+ * any, then how many deadlines are met. `deadlines` has one for all traces or one for each; where it has not, or `out` has
+ * fewer than SIC_REPORT_BYTES bytes, the output stays as it is and the length is 0. 1 to 8, as Open; then 17 of any trace. */
+sic_reported sic_report(const uint8_t *file, size_t file_length, const uint32_t *deadlines, size_t deadlines_length,
+                        uint8_t *out, size_t out_length, uint32_t hit_cycles);
 
 #ifdef __cplusplus
 }

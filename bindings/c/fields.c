@@ -1,5 +1,6 @@
 /* Every field of every struct of sic.h, lent or answered with a value of its own: a field that the library has at another
- * place than the header gives another value here. The limits of sic.h are tried too, each at its border. */
+ * place than the header gives another value here. The limits of sic.h are tried too, each at its border, and the cycles of a
+ * data hit in each call that takes them. */
 #include "sic.h"
 #include <stdio.h>
 #include <string.h>
@@ -50,10 +51,10 @@ static void same_state(const char *what, sic_state got, sic_state want) {
 
 /* Step by value and in place. */
 static void both_steps(const char *what, sic_state from, uint32_t refusal, sic_state want) {
-    sic_stepped stepped = sic_step(body, sizeof body, from);
+    sic_stepped stepped = sic_step(body, sizeof body, from, 0);
     is(what, stepped.refusal, refusal);
     same_state(what, stepped.state, want);
-    is(what, sic_advance(&from, body, sizeof body), refusal);
+    is(what, sic_advance(&from, body, sizeof body, 0), refusal);
     same_state(what, from, want);
 }
 
@@ -109,16 +110,16 @@ static void handed_back(void) {
 /* Run's states are Step's, from the first to the last. */
 static void runs(void) {
     sic_state s = sic_start();
-    const uint32_t finish = sic_finish(body, sizeof body).time;
+    const uint32_t finish = sic_finish(body, sizeof body, 0).time;
     for (uint32_t t = 0; t <= finish + 1; t++) {
-        sic_ran ran = sic_run(body, sizeof body, t);
+        sic_ran ran = sic_run(body, sizeof body, t, 0);
         IS(ran.refusal, 0);
         same_state("after a run", ran.state, s);
         IS(ran.cycles, t < finish ? t : finish);
         IS(ran.left, t >= finish);
-        IS(sic_advance(&s, body, sizeof body), 0);
+        IS(sic_advance(&s, body, sizeof body, 0), 0);
     }
-    sic_ran refused = sic_run(body, 9, 7);
+    sic_ran refused = sic_run(body, 9, 7, 0);
     IS(refused.refusal, SIC_WRONG_LENGTH);
     same_state("after a refused run", refused.state, sic_start());
     IS(refused.cycles, 0);
@@ -130,41 +131,41 @@ static const uint8_t task[20] = {1, 8, 0, 0, 1, 0, 1, 0, 10, 0, 0, 0, 1, 0, 0, 0
 static const uint8_t plain[20] = {0, 0, 0, 0, 0, 0, 1, 0, 0, 0, 0, 0, 0, 0, 0, 0, 1, 0, 0, 0};
 
 static void times(void) {
-    sic_best_and_worst t = sic_best_worst(task, sizeof task);
+    sic_best_and_worst t = sic_best_worst(task, sizeof task, 0);
     IS(t.refusal, 0), IS(t.best, 8), IS(t.worst, 18);
-    t = sic_best_worst(task, 11);
+    t = sic_best_worst(task, 11, 0);
     IS(t.refusal, SIC_WRONG_LENGTH), IS(t.best, 0), IS(t.worst, 0);
-    sic_finished f = sic_finish(plain, sizeof plain);
+    sic_finished f = sic_finish(plain, sizeof plain, 0);
     IS(f.refusal, 0), IS(f.time, 7);
-    f = sic_finish(task, sizeof task);
+    f = sic_finish(task, sizeof task, 0);
     IS(f.refusal, SIC_UNKNOWN_FLAG), IS(f.time, 0);
-    sic_deadline_margin m = sic_margin(task, sizeof task, 0);
+    sic_deadline_margin m = sic_margin(task, sizeof task, 0, 0);
     IS(m.refusal, 0), IS(m.margin, -18);
-    m = sic_margin(task, sizeof task, UINT32_MAX);
+    m = sic_margin(task, sizeof task, UINT32_MAX, 0);
     IS(m.refusal, 0), IS(m.margin, 4294967277);
-    m = sic_margin(task, 11, 7);
+    m = sic_margin(task, 11, 7, 0);
     IS(m.refusal, SIC_WRONG_LENGTH), IS(m.margin, 0);
-    sic_likeness a = sic_alike(plain, sizeof plain, plain, sizeof plain);
+    sic_likeness a = sic_alike(plain, sizeof plain, plain, sizeof plain, 0);
     IS(a.refusal, 0), IS(a.alike, true);
-    a = sic_alike(plain, sizeof plain, plain, 10);
+    a = sic_alike(plain, sizeof plain, plain, 10, 0);
     IS(a.refusal, 0), IS(a.alike, false);
-    a = sic_alike(plain, sizeof plain, task, sizeof task);
+    a = sic_alike(plain, sizeof plain, task, sizeof task, 0);
     IS(a.refusal, SIC_UNKNOWN_FLAG), IS(a.alike, false);
 }
 
 /* The task's load is counted, its fetches hit; the body of states has the misses of its instructions 1, 4, 7 and 8. */
 static void bus_times(void) {
-    sic_time_on_bus b = sic_bus_time(task, sizeof task, 0);
+    sic_time_on_bus b = sic_bus_time(task, sizeof task, 0, 0);
     IS(b.refusal, 0), IS(b.accesses, 1), IS(b.time, 18);
-    b = sic_bus_time(task, sizeof task, UINT16_MAX - 10);
+    b = sic_bus_time(task, sizeof task, UINT16_MAX - 10, 0);
     IS(b.refusal, 0), IS(b.accesses, 1), IS(b.time, 18 + UINT16_MAX - 10);
-    b = sic_bus_time(task, sizeof task, UINT16_MAX - 9);
+    b = sic_bus_time(task, sizeof task, UINT16_MAX - 9, 0);
     IS(b.refusal, SIC_LONG_WAIT), IS(b.accesses, 0), IS(b.time, 0);
-    b = sic_bus_time(body, sizeof body, 300);
-    IS(b.refusal, 0), IS(b.accesses, 4), IS(b.time, sic_finish(body, sizeof body).time + 4 * 300);
-    b = sic_bus_time(plain, sizeof plain, UINT16_MAX);
+    b = sic_bus_time(body, sizeof body, 300, 0);
+    IS(b.refusal, 0), IS(b.accesses, 4), IS(b.time, sic_finish(body, sizeof body, 0).time + 4 * 300);
+    b = sic_bus_time(plain, sizeof plain, UINT16_MAX, 0);
     IS(b.refusal, 0), IS(b.accesses, 0), IS(b.time, 7);
-    b = sic_bus_time(task, 11, UINT16_MAX);
+    b = sic_bus_time(task, 11, UINT16_MAX, 0);
     IS(b.refusal, SIC_WRONG_LENGTH), IS(b.accesses, 0), IS(b.time, 0);
 }
 
@@ -189,11 +190,11 @@ static void files(void) {
     IS(part.refusal, 0), IS(part.start, 30), IS(part.length, 20);
     part = sic_open(file, w.length, 3);
     IS(part.refusal, SIC_OUT_OF_RANGE), IS(part.start, 0), IS(part.length, 0);
-    sic_reported r = sic_report(file, w.length, &deadline, 1, text, SIC_REPORT_BYTES);
+    sic_reported r = sic_report(file, w.length, &deadline, 1, text, SIC_REPORT_BYTES, 0);
     IS(r.refusal, 0), IS(r.traces, 3), IS(r.length, 4 * 78 + strlen("3 of 3 deadlines met\n"));
-    r = sic_report(file, w.length, &deadline, 1, text, SIC_REPORT_BYTES - 1);
+    r = sic_report(file, w.length, &deadline, 1, text, SIC_REPORT_BYTES - 1, 0);
     IS(r.refusal, 0), IS(r.traces, 3), IS(r.length, 0);
-    r = sic_report(file, 1, &deadline, 1, text, SIC_REPORT_BYTES);
+    r = sic_report(file, 1, &deadline, 1, text, SIC_REPORT_BYTES, 0);
     IS(r.refusal, SIC_TOO_SHORT), IS(r.traces, 0), IS(r.length, 0);
     IS(sic_chart(file, 1, text, SIC_CHART_BYTES), strlen("refused 2\n"));
     IS(sic_chart(file, 1, text, SIC_CHART_BYTES - 1), 0);
@@ -213,14 +214,83 @@ static void jobs(void) {
     const uint32_t length = sic_write(counts, 3, records, sizeof records, file, sizeof file).length;
     for (size_t places = 0; places <= 5; places++) {
         for (uint32_t p = 0; p < 5; p++) times[p] = UINT32_MAX - p;
-        sic_whole_job j = sic_worst_times(file, length, times, places);
+        sic_whole_job j = sic_worst_times(file, length, times, places, 0);
         const bool fits = places >= 3;
         IS(j.refusal, fits ? 0 : SIC_SHORT_LIST), IS(j.traces, fits ? 3 : 0);
         IS(times[0], fits ? 6 : UINT32_MAX), IS(times[1], fits ? 18 : UINT32_MAX - 1), IS(times[2], fits ? 7 : UINT32_MAX - 2);
         IS(times[3], UINT32_MAX - 3), IS(times[4], UINT32_MAX - 4);
     }
-    sic_whole_job j = sic_worst_times(file, 1, times, 0);
+    sic_whole_job j = sic_worst_times(file, 1, times, 0, 0);
     IS(j.refusal, SIC_TOO_SHORT), IS(j.traces, 0);
+}
+
+/* A load that hits into register 1 and a plain instruction that needs it; two stores that hit; a store and a load that hit. */
+static const uint8_t load_plain[20] = {1, 0, 0, 0, 1, 0, 1, 0, 20, 0, 0, 0, 1, 0, 0, 0, 1, 0, 0, 0};
+static const uint8_t store_store[20] = {2, 0, 0, 0, 0, 0, 1, 0, 20, 0, 2, 0, 0, 0, 0, 0, 1, 0, 20, 0};
+static const uint8_t store_load[20] = {2, 0, 0, 0, 0, 0, 1, 0, 20, 0, 1, 0, 0, 0, 0, 0, 1, 0, 20, 0};
+
+static void hit_times(void) {
+    static const uint32_t hit_cycles[3] = {0, 3, 15}, times[3][3] = {{8, 7, 7}, {11, 13, 10}, {23, 37, 22}};
+    for (int i = 0; i < 3; i++) {
+        IS(sic_finish(load_plain, 20, hit_cycles[i]).time, times[i][0]);
+        IS(sic_finish(store_store, 20, hit_cycles[i]).time, times[i][1]);
+        IS(sic_finish(store_load, 20, hit_cycles[i]).time, times[i][2]);
+    }
+    IS(sic_run(store_store, 20, UINT32_MAX, 3).cycles, 13), IS(sic_margin(store_store, 20, 20, 3).margin, 7);
+    IS(sic_best_worst(store_store, 20, 3).best, 13), IS(sic_best_worst(store_store, 20, 3).worst, 13);
+    IS(sic_bus_time(store_store, 20, 9, 3).time, 13);
+    IS(sic_alike(store_store, 20, plain, 20, 0).alike, true), IS(sic_alike(store_store, 20, plain, 20, 3).alike, false);
+}
+
+/* A load in MEM and a store in ST, each with count 3, which is not orderly where its hit takes fewer cycles. */
+static void hit_counts(void) {
+    const sic_state load = STATE(1, NONE, NONE, NONE, AT(0, 3), NONE, NONE), store = STATE(1, NONE, NONE, NONE, NONE, AT(0, 3), NONE);
+    for (uint32_t h = 0; h <= 15; h++) {
+        const uint32_t refusal = h < 3 ? SIC_NOT_ORDERLY : 0, count = h < 3 ? 3 : 2;
+        sic_stepped stepped = sic_step(load_plain, 20, load, h);
+        IS(stepped.refusal, refusal), IS(stepped.state.MEM.count, count);
+        sic_state own = store;
+        IS(sic_advance(&own, store_store, 20, h), refusal), IS(own.ST.count, count);
+    }
+}
+
+/* Of one load or store, whatever its flag, 3 cycles are too many where its latency is 3, and not where it is 4. */
+static void hit_borders(void) {
+    for (uint8_t i = 0; i < 12; i++) {
+        const uint8_t kind = i % 2 + 1, flag = i / 2 % 3, latency = i / 6 + 3;
+        const uint8_t one[10] = {kind, 4 * flag, 0, 0, 0, 0, 1, 0, latency, 0};
+        const uint32_t timed = latency == 3 ? SIC_LONG_HIT : 0;
+        const uint32_t settled = timed == 0 && flag == 2 ? SIC_UNKNOWN_FLAG : timed;
+        IS(sic_best_worst(one, 10, 3).refusal, timed), IS(sic_margin(one, 10, 7, 3).refusal, timed);
+        IS(sic_bus_time(one, 10, UINT16_MAX, 3).refusal, timed == 0 && flag != 0 ? SIC_LONG_WAIT : timed);
+        IS(sic_finish(one, 10, 3).refusal, settled), IS(sic_run(one, 10, 7, 3).refusal, settled);
+        IS(sic_step(one, 10, sic_start(), 3).refusal, settled), IS(sic_step(one, 10, waiting, 3).refusal, settled ? settled : SIC_NOT_ORDERLY);
+        IS(sic_alike(one, 10, plain, 20, 3).refusal, settled), IS(sic_alike(plain, 20, one, 10, 3).refusal, settled);
+    }
+    IS(sic_finish(plain, 0, 15).refusal, 0), IS(sic_finish(plain, 0, 16).refusal, SIC_LONG_HIT);
+    IS(sic_best_worst(plain, 0, 16).refusal, SIC_LONG_HIT), IS(sic_best_worst(plain, 0, UINT32_MAX).refusal, SIC_LONG_HIT);
+    IS(sic_best_worst(task, 11, 16).refusal, SIC_WRONG_LENGTH);
+}
+
+/* The task, whose latency is 10, and two stores that hit. */
+static void hits_in_files(void) {
+    static const char last[] = "cycles of a data hit: 3\n1 of 2 deadlines met\n";
+    static uint8_t file[54], text[SIC_REPORT_BYTES];
+    const uint16_t counts[2] = {2, 2};
+    const uint32_t deadline = 13;
+    uint8_t records[40], none[2] = {0, 0};
+    uint32_t times[3] = {1, 2, 3};
+    memcpy(records, task, 20), memcpy(records + 20, store_store, 20);
+    const uint32_t length = sic_write(counts, 2, records, sizeof records, file, sizeof file).length;
+    IS(sic_worst_times(file, length, times, 3, 10).refusal, SIC_LONG_HIT), IS(sic_worst_times(file, length, times, 1, 10).refusal, SIC_LONG_HIT);
+    IS(sic_worst_times(file, length, times, 1, 9).refusal, SIC_SHORT_LIST);
+    IS(sic_worst_times(none, 2, times, 0, 15).refusal, 0), IS(sic_worst_times(none, 2, times, 0, 16).refusal, SIC_LONG_HIT);
+    IS(times[0], 1), IS(times[1], 2), IS(times[2], 3);
+    IS(sic_worst_times(file, length, times, 3, 3).traces, 2), IS(times[0], 18), IS(times[1], 13), IS(times[2], 3);
+    sic_reported r = sic_report(file, length, &deadline, 1, text, sizeof text, 10);
+    IS(r.refusal, SIC_LONG_HIT), IS(r.traces, 0), IS(r.length, 0), IS(text[0], 0);
+    r = sic_report(file, length, &deadline, 1, text, sizeof text, 3);
+    IS(r.refusal, 0), IS(r.traces, 2), IS(r.length, 3 * 78 + strlen(last)), IS(memcmp(text + 3 * 78, last, strlen(last)), 0);
 }
 
 static void limits(void) {
@@ -246,6 +316,10 @@ int main(void) {
     records();
     files();
     jobs();
+    hit_times();
+    hit_counts();
+    hit_borders();
+    hits_in_files();
     limits();
     if (differ == 0) printf("%u values of fields, each where include/sic.h has it\n", tried);
     return differ != 0;

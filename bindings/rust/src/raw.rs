@@ -85,15 +85,15 @@ extern "C" {
     pub fn sic_check(body: *const u8, body_length: usize) -> u32;
     pub fn sic_record(body: *const u8, body_length: usize, k: u32) -> Read;
     pub fn sic_start() -> State;
-    pub fn sic_step(body: *const u8, body_length: usize, state: State) -> Stepped;
-    pub fn sic_advance(state: *mut State, body: *const u8, body_length: usize) -> u32;
-    pub fn sic_run(body: *const u8, body_length: usize, limit: u32) -> Ran;
-    pub fn sic_finish(body: *const u8, body_length: usize) -> Finished;
-    pub fn sic_best_worst(body: *const u8, body_length: usize) -> BestAndWorst;
-    pub fn sic_margin(body: *const u8, body_length: usize, deadline: u32) -> DeadlineMargin;
-    pub fn sic_alike(first: *const u8, first_length: usize, second: *const u8, second_length: usize) -> Likeness;
-    pub fn sic_bus_time(body: *const u8, body_length: usize, wait: u16) -> TimeOnBus;
-    pub fn sic_worst_times(file: *const u8, file_length: usize, times: *mut u32, times_length: usize) -> WholeJob;
+    pub fn sic_step(body: *const u8, body_length: usize, state: State, hit_cycles: u32) -> Stepped;
+    pub fn sic_advance(state: *mut State, body: *const u8, body_length: usize, hit_cycles: u32) -> u32;
+    pub fn sic_run(body: *const u8, body_length: usize, limit: u32, hit_cycles: u32) -> Ran;
+    pub fn sic_finish(body: *const u8, body_length: usize, hit_cycles: u32) -> Finished;
+    pub fn sic_best_worst(body: *const u8, body_length: usize, hit_cycles: u32) -> BestAndWorst;
+    pub fn sic_margin(body: *const u8, body_length: usize, deadline: u32, hit_cycles: u32) -> DeadlineMargin;
+    pub fn sic_alike(first: *const u8, first_length: usize, second: *const u8, second_length: usize, hit_cycles: u32) -> Likeness;
+    pub fn sic_bus_time(body: *const u8, body_length: usize, wait: u16, hit_cycles: u32) -> TimeOnBus;
+    pub fn sic_worst_times(file: *const u8, file_length: usize, times: *mut u32, times_length: usize, hit_cycles: u32) -> WholeJob;
     pub fn sic_chart(file: *const u8, file_length: usize, out: *mut u8, out_length: usize) -> usize;
     pub fn sic_report(
         file: *const u8,
@@ -102,5 +102,6 @@ extern "C" {
         deadlines_length: usize,
         out: *mut u8,
         out_length: usize,
+        hit_cycles: u32,
     ) -> Reported;
 }

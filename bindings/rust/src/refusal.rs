@@ -21,9 +21,10 @@ pub enum Refusal {
     ShortOutput = 14,
     LongWait = 15,
     ShortList = 16,
+    LongHit = 17,
 }
 
-const ALL: [Refusal; 16] = [
+const ALL: [Refusal; 17] = [
     Refusal::TooLong,
     Refusal::TooShort,
     Refusal::TooManyTraces,
@@ -40,6 +41,7 @@ const ALL: [Refusal; 16] = [
     Refusal::ShortOutput,
     Refusal::LongWait,
     Refusal::ShortList,
+    Refusal::LongHit,
 ];
 
 impl Refusal {
@@ -71,6 +73,7 @@ impl Refusal {
             Refusal::ShortOutput => "the output is shorter than the file",
             Refusal::LongWait => "a counted latency plus the wait exceeds 65,535",
             Refusal::ShortList => "the list has fewer places than there are traces",
+            Refusal::LongHit => "a data hit takes more than 15 cycles, or no fewer than a load's or store's data latency",
         }
     }
 }

@@ -36,11 +36,11 @@ fn a_to_l() {
         ("K", vec![store, memory(STORE, HIT, 1)], 16),
     ];
     for (name, trace, time) in cases {
-        assert_eq!(sic::finish(&encode(&trace)), Ok(time), "{name}");
-        assert_eq!(finish(&trace), time, "{name}");
+        assert_eq!(sic::finish(&encode(&trace), 0), Ok(time), "{name}");
+        assert_eq!(finish(&trace, 0), time, "{name}");
     }
     let l = [memory(LOAD, UNKNOWN, 10), Instruction { fetch: UNKNOWN, ..plain() }];
-    assert_eq!(sic::best_worst(&encode(&l)), Ok(sic::BestAndWorst { best: 7, worst: 21 }));
+    assert_eq!(sic::best_worst(&encode(&l), 0), Ok(sic::BestAndWorst { best: 7, worst: 21 }));
 }
 
 /// "A store waits in ID for its first source only, and in EX for its second": document 02, F-3.
@@ -63,8 +63,8 @@ fn a_stores_value_is_needed_late() {
         ("a branch", [into(1, load), from(0, 1, branch)], 18),
     ];
     for (name, trace, time) in cases {
-        assert_eq!(sic::finish(&encode(&trace)), Ok(time), "{name}");
-        assert_eq!(finish(&trace), time, "{name}");
+        assert_eq!(sic::finish(&encode(&trace), 0), Ok(time), "{name}");
+        assert_eq!(finish(&trace, 0), time, "{name}");
     }
 }
 
@@ -72,16 +72,16 @@ fn a_stores_value_is_needed_late() {
 fn margins_and_limits_of_b() {
     let b = encode(&[plain()]);
     for (deadline, margin) in [(5, -1), (6, 0), (7, 1), (0, -6), (u32::MAX, 4294967289)] {
-        assert_eq!(sic::margin(&b, deadline), Ok(margin));
+        assert_eq!(sic::margin(&b, deadline, 0), Ok(margin));
     }
     for (limit, cycles, left) in [(0, 0, false), (5, 5, false), (6, 6, true), (7, 6, true), (u32::MAX, 6, true)] {
-        let run = sic::run(&b, limit).unwrap();
+        let run = sic::run(&b, limit, 0).unwrap();
         assert_eq!((run.cycles, run.left), (cycles, left));
     }
 }
 
 fn bus_time(trace: &[Instruction], wait: u16) -> Result<(u32, u32), u32> {
-    sic::bus_time(&encode(trace), wait).map(|b| (b.accesses, b.time)).map_err(Refusal::number)
+    sic::bus_time(&encode(trace), wait, 0).map(|b| (b.accesses, b.time)).map_err(Refusal::number)
 }
 
 /// Every access that document 02 counts, one at a time: fetches of each kind, and the data accesses of loads and stores.
@@ -97,7 +97,7 @@ fn bus_times_at_their_borders() {
     assert_eq!(bus_time(&[], u16::MAX), Ok((0, 0)));
     assert_eq!(bus_time(&[plain()], u16::MAX), Ok((0, 6)));
     for access in [MISS, UNKNOWN].into_iter().flat_map(|flag| one_access(flag, 1)) {
-        let worst = sic::best_worst(&encode(&[access])).unwrap().worst;
+        let worst = sic::best_worst(&encode(&[access]), 0).unwrap().worst;
         assert_eq!(bus_time(&[access], 0), Ok((1, worst)), "{access:?}");
         assert_eq!(bus_time(&[access], 65534), Ok((1, worst + 65534)), "{access:?}");
         assert_eq!(bus_time(&[access], 65535), Err(15), "{access:?}");
@@ -107,7 +107,7 @@ fn bus_times_at_their_borders() {
         assert_eq!(bus_time(&[access], 1), Err(15), "{access:?}");
     }
     for hit in one_access(HIT, 65535) {
-        assert_eq!(bus_time(&[hit], 65535), Ok((0, sic::finish(&encode(&[hit])).unwrap())), "{hit:?}");
+        assert_eq!(bus_time(&[hit], 65535), Ok((0, sic::finish(&encode(&[hit]), 0).unwrap())), "{hit:?}");
     }
 }
 
@@ -133,19 +133,19 @@ fn bus_times_of_traces() {
 fn bus_times_refuse_10_then_8_then_15() {
     let long = Instruction { fetch: MISS, fetch_latency: 65535, ..plain() };
     let mut body = encode(&[long, plain()]);
-    assert_eq!(number(sic::bus_time(&body, 1)), 15);
+    assert_eq!(number(sic::bus_time(&body, 1, 0)), 15);
     body[10] = 4;
-    assert_eq!(number(sic::bus_time(&body, 1)), 8);
+    assert_eq!(number(sic::bus_time(&body, 1, 0)), 8);
     body.pop();
-    assert_eq!(number(sic::bus_time(&body, 1)), 10);
-    let refused = unsafe { sic::raw::sic_bus_time(encode(&[long]).as_ptr(), 10, 1) };
+    assert_eq!(number(sic::bus_time(&body, 1, 0)), 10);
+    let refused = unsafe { sic::raw::sic_bus_time(encode(&[long]).as_ptr(), 10, 1, 0) };
     assert_eq!((refused.refusal, refused.accesses, refused.time), (15, 0, 0));
 }
 
 /// The call on a list of so many places: the refusal, or how many are filled, and the list afterwards.
-fn worst_times(file: &[u8], places: usize) -> (Result<usize, u32>, Vec<u32>) {
+fn worst_times(file: &[u8], places: usize, hit_cycles: u32) -> (Result<usize, u32>, Vec<u32>) {
     let mut times = job::former(places);
-    (sic::worst_times(file, &mut times).map_err(Refusal::number), times)
+    (sic::worst_times(file, &mut times, hit_cycles).map_err(Refusal::number), times)
 }
 
 /// B, C, an empty trace, L and I, with lists that are just long enough, longer, and too short.
@@ -155,29 +155,29 @@ fn a_whole_job() {
     let records = encode(&[&[plain(), memory(LOAD, MISS, 10)], &l[..], &[memory(STORE, MISS, 10)]].concat());
     let file = write(&[1, 1, 0, 2, 1], &records, 200).unwrap();
     for places in [5, 6, 8, 16, 100] {
-        let (answer, times) = worst_times(&file, places);
+        let (answer, times) = worst_times(&file, places, 0);
         assert_eq!(answer, Ok(5));
         assert_eq!(times[..5], [6, 16, 0, 21, 15]);
         assert_eq!(times[5..], job::former(places)[5..]);
     }
     for places in 0..5 {
-        assert_eq!(worst_times(&file, places), (Err(16), job::former(places)));
+        assert_eq!(worst_times(&file, places, 0), (Err(16), job::former(places)));
     }
-    let refused = unsafe { sic::raw::sic_worst_times(file.as_ptr(), file.len(), job::former(4).as_mut_ptr(), 4) };
+    let refused = unsafe { sic::raw::sic_worst_times(file.as_ptr(), file.len(), job::former(4).as_mut_ptr(), 4, 0) };
     assert_eq!((refused.refusal, refused.traces), (16, 0));
 }
 
 #[test]
 fn jobs_of_0_and_16_traces() {
     for places in [0, 1, 16] {
-        assert_eq!(worst_times(&[0, 0], places), (Ok(0), job::former(places)));
+        assert_eq!(worst_times(&[0, 0], places, 0), (Ok(0), job::former(places)));
     }
     let bodies: Vec<Vec<u8>> = (0..16).map(|t| encode(&vec![plain(); t])).collect();
     let counts: Vec<u16> = (0..16).collect();
     let file = write(&counts, &bodies.concat(), 2000).unwrap();
-    let alone: Vec<u32> = bodies.iter().map(|body| sic::best_worst(body).unwrap().worst).collect();
-    assert_eq!(worst_times(&file, 16), (Ok(16), alone));
-    assert_eq!(worst_times(&file, 15), (Err(16), job::former(15)));
+    let alone: Vec<u32> = bodies.iter().map(|body| sic::best_worst(body, 0).unwrap().worst).collect();
+    assert_eq!(worst_times(&file, 16, 0), (Ok(16), alone));
+    assert_eq!(worst_times(&file, 15, 0), (Err(16), job::former(15)));
 }
 
 /// A file that Open declines, with lists that would be long enough for it and lists that would not: Open's number, and no
@@ -203,35 +203,189 @@ fn jobs_refuse_1_to_8_then_16() {
     for (file, number) in declined {
         assert_eq!(sic::open(file, 0).map_err(Refusal::number), Err(number));
         for places in [0, 2, 3, 20] {
-            assert_eq!(worst_times(file, places), (Err(number), job::former(places)));
+            assert_eq!(worst_times(file, places, 0), (Err(number), job::former(places)));
         }
     }
-    assert_eq!(worst_times(&file, 2).0, Err(16));
+    assert_eq!(worst_times(&file, 2, 0).0, Err(16));
+}
+
+/// Each trace with data hits of 0, 3 and 15 cycles. "The count on entry to MEM for a load hit, and to ST for a store hit, becomes
+/// h": document 02, F-4.
+#[test]
+fn data_hits_that_take_cycles() {
+    let (load, store) = (memory(LOAD, HIT, 20), memory(STORE, HIT, 20));
+    let from_1 = Instruction { source1: 1, ..plain() };
+    let late = Instruction { fetch: MISS, fetch_latency: 10, ..plain() };
+    let cases: [(&str, Vec<Instruction>, [u32; 3]); 9] = [
+        ("a load and what needs it", vec![Instruction { target: 1, ..load }, from_1], [8, 11, 23]),
+        ("two stores", vec![store, store], [7, 13, 37]),
+        ("a store, then a load", vec![store, load], [7, 10, 22]),
+        ("a load, then a store", vec![load, store], [7, 13, 37]),
+        ("a store, then a plain one", vec![store, plain()], [7, 9, 21]),
+        ("a load, then a missed fetch", vec![load, late], [20, 23, 35]),
+        ("a missed load", vec![memory(LOAD, MISS, 20)], [26, 26, 26]),
+        ("a missed store, then a hit", vec![memory(STORE, MISS, 20), store], [26, 29, 41]),
+        ("neither load nor store", vec![plain(), Instruction { kind: BRANCH, ..plain() }], [7, 7, 7]),
+    ];
+    for (name, trace, times) in cases {
+        for (hit_cycles, time) in [0, 3, 15].into_iter().zip(times) {
+            assert_eq!(sic::finish(&encode(&trace), hit_cycles), Ok(time), "{name}, hits of {hit_cycles}");
+            assert_eq!(finish(&trace, hit_cycles), time, "{name}, hits of {hit_cycles}");
+        }
+    }
+}
+
+/// A load unknown and a store hit, which finish after 13 cycles where the load hits with 3, and after 30 where it misses with 20.
+#[test]
+fn every_call_counts_the_cycles_of_a_hit() {
+    let body = encode(&[memory(LOAD, UNKNOWN, 20), memory(STORE, HIT, 20)]);
+    let hit = encode(&[memory(LOAD, HIT, 20), memory(STORE, HIT, 20)]);
+    assert_eq!(sic::best_worst(&body, 3), Ok(sic::BestAndWorst { best: 13, worst: 30 }));
+    assert_eq!(sic::margin(&body, 29, 3), Ok(-1));
+    assert_eq!(sic::bus_time(&body, 100, 3), Ok(sic::TimeOnBus { accesses: 1, time: 130 }));
+    assert_eq!(sic::run(&hit, 12, 3).map(|r| (r.cycles, r.left, r.state.ST.count)), Ok((12, false, 0)));
+    assert_eq!(sic::run(&hit, u32::MAX, 3).map(|r| (r.cycles, r.left)), Ok((13, true)));
+    assert_eq!(sic::alike(&hit, &encode(&[plain(); 2]), 0), Ok(true));
+    assert_eq!(sic::alike(&hit, &encode(&[plain(); 2]), 3), Ok(false));
+    assert_eq!(sic::alike(&hit, &encode(&[plain(); 8]), 3), Ok(true));
+    let file = write(&[2, 2], &[&body[..], &hit].concat(), 100).unwrap();
+    let (answer, times) = worst_times(&file, 3, 3);
+    assert_eq!((answer, &times[..2], times[2]), (Ok(2), &[30, 13][..], job::former(3)[2]));
+}
+
+/// What each form of Step answers, which must be the same.
+fn stepped(body: &[u8], state: State, hit_cycles: u32) -> Result<State, u32> {
+    let (refusal, after) = by_value::step(body, state, hit_cycles);
+    let mut own = state;
+    assert_eq!((number(own.advance(body, hit_cycles)), own), (refusal, after));
+    let answer = sic::step(body, state, hit_cycles).map_err(Refusal::number);
+    assert_eq!(answer, if refusal == 0 { Ok(after) } else { Err(refusal) });
+    answer
+}
+
+/// A load alone in MEM and a store alone in ST, with the count on entry, which falls, and with one more. A miss has its own
+/// count, and what is no such access has none.
+#[test]
+fn a_state_is_judged_by_the_cycles_of_a_hit() {
+    let held = |count| sic::Slot { filled: true, index: 0, count };
+    let in_mem = |count| State { fetched: 1, MEM: held(count), ..State::start() };
+    let in_st = |count| State { fetched: 1, ST: held(count), ..State::start() };
+    for h in 0..=15 {
+        for (kind, access, mem, st) in [(LOAD, HIT, h, 0), (STORE, HIT, 0, h), (LOAD, MISS, 20, 0), (STORE, MISS, 0, 19)] {
+            let i = memory(kind, access, 20);
+            let body = encode(&[i]);
+            assert_eq!(stepped(&body, in_mem(mem + 1), h), Err(12), "{i:?}, hits of {h}");
+            assert_eq!(stepped(&body, in_mem(mem), h).map(|s| s.MEM.filled), Ok(mem > 0), "{i:?}, hits of {h}");
+            if kind == STORE {
+                assert_eq!(stepped(&body, in_st(st + 1), h), Err(12), "{i:?}, hits of {h}");
+                assert_eq!(stepped(&body, in_st(st), h).map(|s| s.ST.filled), Ok(st > 0), "{i:?}, hits of {h}");
+            }
+        }
+        assert_eq!(stepped(&encode(&[plain()]), in_mem(1), h), Err(12));
+    }
+}
+
+/// "h above 15, or a load or store whose data latency is not above h", whatever its flag, wherever it stands.
+#[test]
+fn hits_as_long_as_misses() {
+    for (kind, flag) in [LOAD, STORE].into_iter().flat_map(|kind| [HIT, MISS, UNKNOWN].map(|flag| (kind, flag))) {
+        let settled = if flag == UNKNOWN { 11 } else { 0 };
+        for h in 1..=15 {
+            for at in 0..3 {
+                let mut trace = vec![plain(), memory(LOAD, HIT, 65535), memory(STORE, MISS, 16)];
+                trace[at] = memory(kind, flag, h);
+                refuse(&encode(&trace), h as u32, 17, 17);
+                trace[at].data_latency += 1;
+                refuse(&encode(&trace), h as u32, 0, settled);
+            }
+        }
+        refuse(&encode(&[memory(kind, flag, 1)]), 0, 0, settled);
+        refuse(&encode(&[memory(kind, flag, 65535)]), 16, 17, 17);
+    }
+    let branch = Instruction { kind: BRANCH, ..plain() };
+    for body in [encode(&[]), encode(&[plain(), branch])] {
+        refuse(&body, 15, 0, 0);
+        refuse(&body, 16, 17, 17);
+        refuse(&body, u32::MAX, 17, 17);
+    }
+}
+
+/// 8, 17, 11, 12 of Step, and 8, 17, 15 on a bus: what is refused first is put right, and the next is refused.
+#[test]
+fn long_hits_are_refused_after_8_and_before_the_rest() {
+    let mut body = encode(&[memory(LOAD, UNKNOWN, 3), plain()]);
+    let state = State { fetched: 3, ..State::start() };
+    body[10] = 4;
+    assert_eq!((stepped(&body, state, 3), number(sic::bus_time(&body, 65535, 3))), (Err(8), 8));
+    body[10] = 0;
+    assert_eq!((stepped(&body, state, 3), number(sic::bus_time(&body, 65535, 3))), (Err(17), 17));
+    body[8] = 4;
+    assert_eq!((stepped(&body, state, 3), number(sic::bus_time(&body, 65535, 3))), (Err(11), 15));
+    body[1] = HIT;
+    assert_eq!((stepped(&body, state, 3), number(sic::bus_time(&body, 65535, 3))), (Err(12), 0));
+    assert_eq!(number(sic::step(&body, State::start(), 3)), 0);
+}
+
+/// 8, 17, 16 of a job, and 8, 17 of a report, whichever trace it is; the list stays as it is.
+#[test]
+fn long_hits_in_files() {
+    let first = [memory(STORE, UNKNOWN, 3), plain(), memory(LOAD, HIT, 9)];
+    let last = [memory(LOAD, HIT, 9), plain(), memory(STORE, UNKNOWN, 3)];
+    for trace in [first, last] {
+        let mut file = write(&[1, 0, 2], &encode(&trace), 100).unwrap();
+        let refused = |file: &[u8], hit_cycles| {
+            let answers = [0, 2, 3, 20].map(|places| worst_times(file, places, hit_cycles));
+            let kept = answers.iter().all(|(answer, list)| answer.is_ok() || *list == job::former(list.len()));
+            assert!(kept, "{answers:?}");
+            (answers.map(|(answer, _)| answer.err().unwrap_or(0)), number(sic::report(file, &[7], hit_cycles)))
+        };
+        assert_eq!(refused(&file, 2), ([16, 16, 0, 0], 0));
+        assert_eq!(refused(&file, 3), ([17; 4], 17));
+        assert_eq!(refused(&file, 16), ([17; 4], 17));
+        file[20] = 4;
+        assert_eq!(refused(&file, 16), ([8; 4], 8));
+    }
+    assert_eq!(worst_times(&[0, 0], 0, 15), (Ok(0), vec![]));
+    assert_eq!(worst_times(&[0, 0], 1, 16), (Err(17), job::former(1)));
+    assert_eq!(number(sic::report(&[0, 0], &[7], 16)), 17);
+}
+
+/// What each call refuses of a body: the number where unknown flags are taken, and where they are not. The second of two bodies is
+/// judged only where the first, of a plain instruction, is not refused.
+fn refuse(body: &[u8], hit_cycles: u32, timed: u32, settled: u32) {
+    let good = encode(&[plain()]);
+    let mut state = State::start();
+    assert_eq!(number(sic::best_worst(body, hit_cycles)), timed);
+    assert_eq!(number(sic::margin(body, 7, hit_cycles)), timed);
+    assert_eq!(number(sic::bus_time(body, 7, hit_cycles)), timed);
+    assert_eq!(number(sic::finish(body, hit_cycles)), settled);
+    assert_eq!(number(sic::run(body, 7, hit_cycles)), settled);
+    assert_eq!(number(sic::step(body, state, hit_cycles)), settled);
+    assert_eq!(by_value::step(body, state, hit_cycles).0, settled);
+    assert_eq!(number(state.advance(body, hit_cycles)), settled);
+    assert_eq!(number(sic::alike(body, &good, hit_cycles)), settled);
+    assert_eq!(number(sic::alike(&good, body, hit_cycles)), if hit_cycles > 15 { 17 } else { settled });
 }
 
 #[test]
 fn refusals_of_bodies() {
     let good = encode(&[plain(), memory(LOAD, MISS, 3)]);
     let unknown = encode(&[memory(LOAD, UNKNOWN, 3)]);
-    let mut broken = good.clone();
-    broken[0] = 4;
+    let mut broken = [&unknown[..], &good].concat();
+    broken[10] = 4;
     let long = vec![0; 40970];
     for (body, checked, settled) in [(&good, 0, 0), (&unknown, 0, 11), (&broken, 8, 8), (&good[..19].to_vec(), 10, 10), (&long, 10, 10)] {
-        let mut state = State::start();
         assert_eq!(number(sic::View::new(body)), checked);
-        assert_eq!(number(sic::best_worst(body)), checked);
-        assert_eq!(number(sic::margin(body, 7)), checked);
-        assert_eq!(number(sic::bus_time(body, 7)), checked);
-        assert_eq!(number(sic::finish(body)), settled);
-        assert_eq!(number(sic::run(body, 7)), settled);
-        assert_eq!(number(sic::step(body, state)), settled);
-        assert_eq!(by_value::step(body, state).0, settled);
-        assert_eq!(number(state.advance(body)), settled);
-        assert_eq!(number(sic::alike(body, &good)), settled);
-        assert_eq!(number(sic::alike(&good, body)), settled);
+        refuse(body, 2, checked, settled);
+        for hit_cycles in [3, 15, 16, u32::MAX] {
+            let timed = if checked == 0 { 17 } else { checked };
+            refuse(body, hit_cycles, timed, timed);
+        }
     }
-    assert_eq!(number(sic::alike(&broken, &unknown)), 8);
-    assert_eq!(number(sic::alike(&unknown, &broken)), 11);
+    assert_eq!(number(sic::alike(&broken, &unknown, 2)), 8);
+    assert_eq!(number(sic::alike(&unknown, &broken, 2)), 11);
+    assert_eq!(number(sic::alike(&unknown, &broken, 3)), 17);
+    assert_eq!(number(sic::alike(&encode(&[memory(LOAD, UNKNOWN, 4)]), &good, 3)), 11);
 }
 
 #[test]
@@ -239,10 +393,10 @@ fn a_refused_step_keeps_the_state() {
     let body = encode(&[plain()]);
     let mut state = State { fetched: 2, ..State::start() };
     let before = state;
-    assert_eq!(state.advance(&body), Err(Refusal::NotOrderly));
+    assert_eq!(state.advance(&body, 0), Err(Refusal::NotOrderly));
     assert_eq!(state, before);
-    assert_eq!(number(sic::step(&body, state)), 12);
-    assert_eq!(by_value::step(&body, state), (12, before));
+    assert_eq!(number(sic::step(&body, state, 0)), 12);
+    assert_eq!(by_value::step(&body, state, 0), (12, before));
 }
 
 /// D from each of its rows, its last one twice, whole and cut short: in place the same number and state as by value.
@@ -250,12 +404,12 @@ fn a_refused_step_keeps_the_state() {
 fn a_step_in_place_is_the_step_by_value() {
     let d = encode(&[Instruction { target: 1, ..memory(LOAD, HIT, 1) }, Instruction { source1: 1, target: 2, ..plain() }]);
     for (cycle, length) in (0..10).flat_map(|cycle| [20, 10, 9].map(|length| (cycle, length))) {
-        let row = sic::run(&d, cycle).unwrap().state;
+        let row = sic::run(&d, cycle, 0).unwrap().state;
         let mut state = row;
-        let refusal = number(state.advance(&d[..length]));
-        assert_eq!((refusal, state), by_value::step(&d[..length], row), "{length} bytes, row {cycle}");
+        let refusal = number(state.advance(&d[..length], 0));
+        assert_eq!((refusal, state), by_value::step(&d[..length], row, 0), "{length} bytes, row {cycle}");
         match (length, row.fetched) {
-            (20, _) => assert_eq!((refusal, state), (0, sic::run(&d, cycle + 1).unwrap().state)),
+            (20, _) => assert_eq!((refusal, state), (0, sic::run(&d, cycle + 1, 0).unwrap().state)),
             (10, 2) => assert_eq!((refusal, state), (12, row)),
             (10, _) => assert_eq!(refusal, 0),
             _ => assert_eq!((refusal, state), (10, row)),
@@ -312,8 +466,8 @@ fn writing_at_its_borders() {
 #[test]
 fn refusals_speak() {
     assert_eq!(Refusal::of(0), None);
-    assert_eq!(Refusal::of(17), None);
-    for n in 1..=16 {
+    assert_eq!(Refusal::of(18), None);
+    for n in 1..=17 {
         let refusal = Refusal::of(n).unwrap();
         assert_eq!(refusal.number(), n);
         assert!(refusal.to_string().starts_with(&format!("refused {n}: ")));
@@ -332,15 +486,29 @@ fn the_chart_of_d() {
 #[test]
 fn a_report_has_a_line_for_each_trace() {
     let file = write(&[1, 2], &encode(&[plain(); 3]), 100).unwrap();
-    let both = sic::report(&file, &[6, 6]).unwrap().unwrap();
+    let both = sic::report(&file, &[6, 6], 0).unwrap().unwrap();
     let lines: Vec<Vec<&str>> = both.lines().map(|l| l.split_whitespace().collect()).collect();
     assert_eq!(lines[0], ["margin", "trace", "instructions", "unknown", "best", "worst", "deadline"]);
     assert_eq!(lines[1], ["0", "0", "1", "0", "6", "6", "6"]);
     assert_eq!(lines[2], ["-1", "1", "2", "0", "7", "7", "6"]);
     assert_eq!(lines[3].join(" "), "1 of 2 deadlines met");
-    assert_eq!(sic::report(&file, &[7]).unwrap(), sic::report(&file, &[7, 7]).unwrap());
-    assert_eq!(sic::report(&file, &[7, 7, 7]), Ok(None));
-    assert_eq!(sic::report(&file, &[]), Ok(None));
-    assert_eq!(sic::report(&[0, 0], &[]).unwrap().unwrap().lines().last(), Some("0 of 0 deadlines met"));
-    assert_eq!(number(sic::report(&file[1..], &[7])), 3);
+    assert_eq!(sic::report(&file, &[7], 0).unwrap(), sic::report(&file, &[7, 7], 0).unwrap());
+    assert_eq!(sic::report(&file, &[7, 7, 7], 0), Ok(None));
+    assert_eq!(sic::report(&file, &[], 0), Ok(None));
+    assert_eq!(sic::report(&[0, 0], &[], 0).unwrap().unwrap().lines().last(), Some("0 of 0 deadlines met"));
+    assert_eq!(number(sic::report(&file[1..], &[7], 0)), 3);
+}
+
+/// With 0 cycles nothing is said of them.
+#[test]
+fn a_report_tells_the_cycles_of_a_hit() {
+    let file = write(&[1], &encode(&[memory(LOAD, HIT, 20)]), 100).unwrap();
+    for (hit_cycles, margin) in [(0, "+10"), (1, "+9"), (15, "-5")] {
+        let report = sic::report(&file, &[16], hit_cycles).unwrap().unwrap();
+        let lines: Vec<&str> = report.lines().collect();
+        assert_eq!(lines[1].split_whitespace().next(), Some(margin));
+        let told = format!("cycles of a data hit: {hit_cycles}");
+        let met = if hit_cycles == 15 { "0 of 1 deadlines met" } else { "1 of 1 deadlines met" };
+        assert_eq!(lines[2..], if hit_cycles == 0 { vec![met] } else { vec![&told[..], met] });
+    }
 }

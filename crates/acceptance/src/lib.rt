@@ -1,24 +1,31 @@
-// Which bodies are accepted, by the refusals that every call shares: 10 a wrong length, 8 a record
-// that breaks its rules, 11 an unknown flag.
+// Which bodies are accepted, by the refusals that calls share: 10 a wrong length, 8 a record that
+// breaks its rules, 17 a data hit that takes too long, 11 an unknown flag.
 ghost use mathlib.Core.Path.{_≡_};
 ghost use Rattle.record.specs.Refusal.{_then_};
 ghost use Rattle.record.specs.Body.{
   lengthRefusal,
   recordRefusal,
   unknownRefusal,
+  hitRefusal,
   bodyRefusal,
+  timedRefusal,
   settledRefusal,
 };
 use machine::State;
 use record::layout::RECORD_SIZE;
 use record::refusal::BROKEN_RECORD;
+use record::refusal::LONG_HIT;
 use record::refusal::UNKNOWN_FLAG;
 use record::refusal::WRONG_LENGTH;
 use record_rules::breaks_rules;
+use record_rules::not_above_from;
 use record_rules::unknown_from;
 
 // The most records that a body holds.
 const MAX_RECORDS: usize = State::MAX_INSTRUCTIONS as usize;
+
+// The most cycles that a data hit takes.
+pub const MAX_HIT_CYCLES: u32 = 15;
 
 pub fn length_refusal(body: &[u8]) -> u32
     ensures { λ r. ⌜ r ≡ lengthRefusal (now (body .entry)) ⌝ }
@@ -32,19 +39,25 @@ pub fn length_refusal(body: &[u8]) -> u32
     0
 }
 
-// 8, then 11, in one pass: an unknown flag counts only where no record breaks its rules.
-fn known_refusal(body: &[u8]) -> u32
-    ensures { λ r. ⌜ r ≡ (recordRefusal (now (body .entry)) then unknownRefusal (now (body .entry))) ⌝ }
+// 8, then 17, then 11, in one pass: a hit that takes too long, and an unknown flag, count only where
+// no record breaks its rules.
+fn scan_refusal(body: &[u8], hit_cycles: u32) -> u32
+    ensures { λ r. ⌜ r ≡ (recordRefusal (now (body .entry)) then hitRefusal (now (body .entry)) «hit_cycles» then unknownRefusal (now (body .entry))) ⌝ }
 {
     let records = body.len() / RECORD_SIZE;
+    let mut long = hit_cycles > MAX_HIT_CYCLES;
     let mut unknown = false;
     let mut k = 0;
     while k < records {
         if breaks_rules(body, k * RECORD_SIZE) {
             return BROKEN_RECORD;
         }
+        long = long | not_above_from(body, k * RECORD_SIZE, hit_cycles);
         unknown = unknown | unknown_from(body, k * RECORD_SIZE);
         k += 1;
+    }
+    if long {
+        return LONG_HIT;
     }
     if unknown {
         return UNKNOWN_FLAG;
@@ -52,12 +65,30 @@ fn known_refusal(body: &[u8]) -> u32
     0
 }
 
-// 8 only, by the same pass: an unknown flag is not refused here.
+// 8 only, by the same pass: neither a hit nor an unknown flag is refused here.
 pub fn record_refusal(body: &[u8]) -> u32
     ensures { λ r. ⌜ r ≡ recordRefusal (now (body .entry)) ⌝ }
 {
-    if known_refusal(body) == BROKEN_RECORD {
+    if scan_refusal(body, 0) == BROKEN_RECORD {
         return BROKEN_RECORD;
+    }
+    0
+}
+
+// 17 only.
+pub fn hit_refusal(body: &[u8], hit_cycles: u32) -> u32
+    ensures { λ r. ⌜ r ≡ hitRefusal (now (body .entry)) «hit_cycles» ⌝ }
+{
+    let records = body.len() / RECORD_SIZE;
+    if hit_cycles > MAX_HIT_CYCLES {
+        return LONG_HIT;
+    }
+    let mut k = 0;
+    while k < records {
+        if not_above_from(body, k * RECORD_SIZE, hit_cycles) {
+            return LONG_HIT;
+        }
+        k += 1;
     }
     0
 }
@@ -73,13 +104,28 @@ pub fn body_refusal(body: &[u8]) -> u32
     record_refusal(body)
 }
 
-// 10, then 8, then 11.
-pub fn settled_refusal(body: &[u8]) -> u32
-    ensures { λ r. ⌜ r ≡ settledRefusal (now (body .entry)) ⌝ }
+// 10, then 8, then 17.
+pub fn timed_refusal(body: &[u8], hit_cycles: u32) -> u32
+    ensures { λ r. ⌜ r ≡ timedRefusal (now (body .entry)) «hit_cycles» ⌝ }
 {
     let fault = length_refusal(body);
     if fault != 0 {
         return fault;
     }
-    known_refusal(body)
+    let found = scan_refusal(body, hit_cycles);
+    if found == UNKNOWN_FLAG {
+        return 0;
+    }
+    found
+}
+
+// 10, then 8, then 17, then 11.
+pub fn settled_refusal(body: &[u8], hit_cycles: u32) -> u32
+    ensures { λ r. ⌜ r ≡ settledRefusal (now (body .entry)) «hit_cycles» ⌝ }
+{
+    let fault = length_refusal(body);
+    if fault != 0 {
+        return fault;
+    }
+    scan_refusal(body, hit_cycles)
 }

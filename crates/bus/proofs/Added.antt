@@ -8,6 +8,7 @@ use borrow.Author.Tests.{ltb-true, ltb-false, lt-ltb, le-ltb}
 use lib.Dec.{ltb}
 use lib.ListN.{length}
 use Rattle.machine.specs.Instruction.{Instruction, Trace}
+use Rattle.machine.specs.Hits.{withHits}
 use Rattle.machine.specs.Bus.{countsFetch, countsData, accessesOf, accesses}
 use Rattle.machine.proofs.Connectives.{Value, passed, failed, value}
 
@@ -25,6 +26,12 @@ pub accesses-few : (trace : Trace) → accesses trace ≤ 2 * length trace
 unfolding accesses accessesOf
 accesses-few [] = omega arith
 accesses-few (i ∷ trace) = omega (arith, accesses-few trace, one-at-most (countsFetch i), one-at-most (countsData i))
+
+-- the cycles of a data hit are no matter of it
+pub accesses-hits : (h : ℕ) (trace : Trace) → accesses (withHits h trace) ≡ accesses trace
+unfolding withHits accesses accessesOf countsFetch countsData
+accesses-hits h [] = omega arith
+accesses-hits h (i ∷ trace) = let e = accesses-hits h trace in omega arith
 
 -- a latency is above what the wait leaves exactly where it is above the limit with the wait
 pub above-rest : (limit wait latency : ℕ) → wait ≤ limit → ltb (limit - wait) latency ≡ ltb limit (latency + wait)

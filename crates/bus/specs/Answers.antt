@@ -10,7 +10,7 @@ use Rattle.machine.specs.Time.{maxLatency}
 use Rattle.machine.specs.Bus.{countsFetch, countsData, accesses, busTime}
 use Rattle.record.specs.Refusal.{_then_, _unless_}
 use Rattle.record.specs.Rules.{instructionOf}
-use Rattle.record.specs.Body.{records, fieldsAt, traceOf, bodyRefusal}
+use Rattle.record.specs.Body.{records, fieldsAt, traceOf, traceWith, timedRefusal}
 use Rattle.bus.specs.declared.call.TimeOnBus.{TimeOnBus}
 
 -- "15: a counted latency plus d exceeds 65,535"
@@ -28,13 +28,13 @@ exceedsAt body longest k = exceeds longest (instructionOf (fieldsAt body k))
 unfoldable pub waitRefusal : List ℕ → ℕ → ℕ
 waitRefusal body longest = longWait unless none (exceedsAt body longest) (records body)
 
--- "Refuses 10, 8, then 15"
-unfoldable pub busRefusal : List ℕ → ℕ → ℕ
-busRefusal body longest = bodyRefusal body then waitRefusal body longest
+-- "Refuses 10, 8, then 15"; document 02, F-4: "17, after 8"
+unfoldable pub busRefusal : List ℕ → ℕ → ℕ → ℕ
+busRefusal body longest h = timedRefusal body h then waitRefusal body longest
 
 -- "A new part counts N, [..] and gives worst time plus N times d."
-unfoldable pub busAnswer : List ℕ → ℕ → TimeOnBus
-busAnswer body longest =
-    cond (eqb (busRefusal body longest) 0)
-    (record { refusal = 0; accesses = accesses (traceOf body); time = busTime (traceOf body) longest })
-    (record { refusal = busRefusal body longest; accesses = 0; time = 0 })
+unfoldable pub busAnswer : List ℕ → ℕ → ℕ → TimeOnBus
+busAnswer body longest h =
+    cond (eqb (busRefusal body longest h) 0)
+    (record { refusal = 0; accesses = accesses (traceWith body h); time = busTime (traceWith body h) longest })
+    (record { refusal = busRefusal body longest h; accesses = 0; time = 0 })

@@ -16,4 +16,4 @@ maxBusTime = maxTime + 2 * maxInstructions * maxWait
 
 -- The time is at most that, so that it fits 32 bits.
 abbrev pub TimeFits : Type 0
-TimeFits = (body : List ℕ) (longest : ℕ) → Bytes body → longest ≤ maxWait → busAnswer body longest .time ≤ maxBusTime
+TimeFits = (body : List ℕ) (longest h : ℕ) → Bytes body → longest ≤ maxWait → busAnswer body longest h .time ≤ maxBusTime

@@ -3,7 +3,7 @@ ghost use mathlib.Core.Path.{_≡_};
 ghost use Rattle.bus.specs.Answers.{busAnswer};
 use crate::counting::count_accesses;
 use crate::refusal::LONG_WAIT;
-use acceptance::body_refusal;
+use acceptance::timed_refusal;
 use decode::MISS;
 use passing::finish_settled;
 
@@ -15,10 +15,10 @@ pub struct TimeOnBus {
 }
 
 // The worst time, plus the longest wait for each access marked miss or unknown.
-pub fn bus_time(body: &[u8], wait: u16) -> TimeOnBus
-    ensures { λ r. ⌜ r ≡ busAnswer (now (body .entry)) wait ⌝ }
+pub fn bus_time(body: &[u8], wait: u16, hit_cycles: u32) -> TimeOnBus
+    ensures { λ r. ⌜ r ≡ busAnswer (now (body .entry)) wait «hit_cycles» ⌝ }
 {
-    let refusal = body_refusal(body);
+    let refusal = timed_refusal(body, hit_cycles);
     if refusal != 0 {
         return TimeOnBus {
             refusal,
@@ -35,7 +35,7 @@ pub fn bus_time(body: &[u8], wait: u16) -> TimeOnBus
         };
     }
     let accesses = counted.accesses;
-    let worst = finish_settled(body, MISS);
+    let worst = finish_settled(body, MISS, hit_cycles);
     TimeOnBus {
         refusal: 0,
         accesses,

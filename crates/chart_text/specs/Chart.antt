@@ -6,7 +6,7 @@ use lib.Dec.{eqb, leb}
 use lib.ListN.{length}
 use Rattle.machine.specs.Instruction.{Trace, miss}
 use Rattle.machine.specs.Time.{settle, best, worst}
-use Rattle.record.specs.Body.{traceOf}
+use Rattle.record.specs.Body.{traceWith}
 use Rattle.job.specs.Open.{openRefusal, openBody}
 use Rattle.text.specs.Text.{put}
 use Rattle.chart_lines.specs.Lines.{headerText, timesText, refusalText, headerBytes, rowBytes, timesBytes}
@@ -16,8 +16,9 @@ use Rattle.chart_rows.specs.Rows.{lastRow, rowsText}
 unfoldable pub chartOf : Trace → List ℕ
 chartOf trace = headerText ++ rowsText (settle miss trace) (suc (min (worst trace) lastRow)) ++ timesText (worst trace) (best trace)
 
+-- document 02, F-4: "the chart program uses 0"
 unfoldable pub chartText : List ℕ → List ℕ
-chartText file = cond (eqb (openRefusal file 0) 0) (chartOf (traceOf (openBody file 0))) (refusalText (openRefusal file 0))
+chartText file = cond (eqb (openRefusal file 0) 0) (chartOf (traceWith (openBody file 0) 0)) (refusalText (openRefusal file 0))
 
 -- no chart is longer: the header, rows 0 to 1,000, the last line
 abbrev pub longest : ℕ

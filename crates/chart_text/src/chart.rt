@@ -2,7 +2,7 @@
 ghost use mathlib.Core.Path.{_≡_};
 ghost use Prim.Native.Nat.{_≤_, min};
 ghost use lib.ListN.{length};
-ghost use Rattle.record.specs.Body.{traceOf, bodyRefusal};
+ghost use Rattle.record.specs.Body.{traceWith, bodyRefusal};
 ghost use Rattle.text.specs.Text.{Wrote};
 ghost use Rattle.chart_text.specs.Chart.{
   longest,
@@ -34,9 +34,9 @@ fn smaller(a: u32, b: u32) -> u32
 
 fn draw_body(body: &[u8], out: &mut [u8]) -> usize
     requires { ⌜ (bodyRefusal (now body) ≡ 0) × (longest ≤ length (now out)) ⌝ }
-    ensures { λ r. ⌜ Wrote 0 (chartOf (traceOf (now (body .entry)))) (now (out .entry)) (now (out .exit)) r ⌝ }
+    ensures { λ r. ⌜ Wrote 0 (chartOf (traceWith (now (body .entry)) 0)) (now (out .entry)) (now (out .exit)) r ⌝ }
 {
-    let times = best_worst(body);
+    let times = best_worst(body, 0);
     let first = put_header(out);
     let end = put_rows(body, out, first, smaller(times.worst, LAST_ROW));
     put_times(out, end, times.worst, times.best)

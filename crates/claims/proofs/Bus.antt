@@ -10,16 +10,18 @@ use lib.Dec.{ltb}
 use lib.ListN.{length}
 use Rattle.machine.specs.Test.{_and_, _or_}
 use Rattle.machine.specs.Instruction.{Flag, Instruction, Trace, instruction}
-use Rattle.machine.specs.Rules.{isLoad, isStore, hits, misses, missesData}
+use Rattle.machine.specs.Rules.{isLoad, isStore, hits as hitting, misses, missesData}
 use Rattle.machine.specs.Time.{Settled, hit-stays, miss-stays, unknown-hits, unknown-misses, SettledInstruction, Settling, withWaits, Delayed, finish}
 use Rattle.machine.specs.Bus.{countsFetch, countsData, busTime}
 use Rattle.machine.proofs.Connectives.{or-failed-l, or-failed-r, none-at}
 use Rattle.machine.proofs.Settled.{settling-length, settling-at}
 use Rattle.machine.proofs.Delays.{delayed-length, delayed-at, delayed-no-later}
+use Rattle.machine.specs.Hits.{withHits}
+use Rattle.machine.proofs.Hits.{length-hits, settling-hits, delayed-hits}
 use Rattle.machine.proofs.UnderWay.{one-under-way}
 use Rattle.record.specs.Rules.{kindOf, instructionOf}
-use Rattle.record.specs.Body.{records, fieldsAt, traceOf, bodyRefusal}
-use Rattle.record.proofs.Accepted.{fields-within}
+use Rattle.record.specs.Body.{records, fieldsAt, traceOf, traceWith, bodyRefusal, timedRefusal}
+use Rattle.record.proofs.Accepted.{fields-within, timed-accepted, settled-of}
 use Rattle.record.proofs.Refusals.{then-first, then-second, unless-passed}
 use Rattle.record.proofs.Instructions.{length-traceOf, instruction-traceOf}
 use Rattle.encoding.specs.Encoding.{bodyOf}
@@ -28,25 +30,30 @@ use Rattle.encoding.proofs.DelayedBody.{delayed-are-bodies}
 use Rattle.bus.specs.Answers.{exceeds, exceedsAt, waitRefusal, busRefusal, busAnswer}
 use Rattle.claims.specs.Claim.{Passes, rules, calls}
 use Rattle.claims.specs.Bus.{EmbodiedVersion, NoneLater, TimeHolds, AtMostOne, OneAtATime}
+use Rattle.claims.proofs.Hits.{passed-hits, timed-takes, version-passes}
 use Rattle.claims.proofs.Claim.{run-answered, finish-answered}
 
 -- what the call answers for a body that it does not refuse
-bus-answered : (body : List ℕ) (wait : ℕ) → busRefusal body wait ≡ 0 → busAnswer body wait .time ≡ busTime (traceOf body) wait
+bus-answered : (h : ℕ) (body : List ℕ) (wait : ℕ) → busRefusal body wait h ≡ 0 → busAnswer body wait h .time ≡ busTime (traceWith body h) wait
 unfolding busAnswer
-bus-answered body wait e = rw (eq-eqb (busRefusal body wait) 0 e)
+bus-answered h body wait e = rw (eq-eqb (busRefusal body wait h) 0 e)
 
-none-later : NoneLater rules
-none-later body version wait p v =
+timed : (h : ℕ) (body : List ℕ) (wait : ℕ) → Passes (λ bytes. busRefusal bytes wait) h body → Passes timedRefusal h body
+unfolding busRefusal
+timed h body wait p = record { bytes = p .bytes; passes = then-first (timedRefusal body h) (waitRefusal body wait) (p .passes) }
+
+none-later : (h : ℕ) → NoneLater h (rules h)
+none-later h body version wait p v =
     subst
-    (λ (time : ℕ). finish (traceOf version) ≤ time)
-    (sym (bus-answered body wait (p .passes)))
-    (delayed-no-later (traceOf body) (v .settling) (traceOf version) wait (v .settles) (v .delays))
+    (λ (time : ℕ). finish (traceWith version h) ≤ time)
+    (sym (bus-answered h body wait (p .passes)))
+    (delayed-no-later h (traceWith body h) (withHits h (v .settling)) (traceWith version h) wait (timed-takes (timed h body wait p)) (settling-hits h (v .settles)) (delayed-hits h (v .delays)))
 
-calls-none-later : NoneLater calls
-calls-none-later body version wait p v = rw (finish-answered version (v .passes)) (none-later body version wait p v)
+calls-none-later : (h : ℕ) → NoneLater h (calls h)
+calls-none-later h body version wait p v = rw (finish-answered h version (v .passes)) (none-later h body version wait p v)
 
 -- a latency with its wait fits two bytes: the access is counted where it is missed in a settling
-latency-fits : (x : Bool) {f g : Flag} {wait w m : ℕ} → Settled f g → w ≤ wait → m < 65536 → ((x and not (hits f)) and ltb 65535 (m + wait)) ≡ false → m + cond (x and misses g) w 0 < 65536
+latency-fits : (x : Bool) {f g : Flag} {wait w m : ℕ} → Settled f g → w ≤ wait → m < 65536 → ((x and not (hitting f)) and ltb 65535 (m + wait)) ≡ false → m + cond (x and misses g) w 0 < 65536
 unfolding _and_
 latency-fits true hit-stays l small e = omega arith
 latency-fits true {wait = wait} {m = m} miss-stays l small e = omega (arith, ltb-false 65535 (m + wait) e)
@@ -54,15 +61,14 @@ latency-fits true unknown-hits l small e = omega arith
 latency-fits true {wait = wait} {m = m} unknown-misses l small e = omega (arith, ltb-false 65535 (m + wait) e)
 latency-fits false s l small e = omega arith
 
-module _ (body : List ℕ) (wait : ℕ) (p : Passes (λ bytes. busRefusal bytes wait) body) where
+module _ (hits : ℕ) (body : List ℕ) (wait : ℕ) (p : Passes (λ bytes. busRefusal bytes wait) hits body) where
   accepted : bodyRefusal body ≡ 0
-  unfolding busRefusal
-  accepted = then-first (bodyRefusal body) (waitRefusal body wait) (p .passes)
+  accepted = timed-accepted body hits (timed hits body wait p .passes)
 
   none-exceeds : (k : ℕ) → k < records body → exceeds wait (instructionOf (fieldsAt body k)) ≡ false
   unfolding busRefusal waitRefusal exceedsAt
   none-exceeds k l =
-      none-at (exceedsAt body wait) (records body) (unless-passed _ _ (then-second (bodyRefusal body) (waitRefusal body wait) (p .passes))) k l
+      none-at (exceedsAt body wait) (records body) (unless-passed _ _ (then-second (timedRefusal body hits) (waitRefusal body wait) (p .passes))) k l
 
   module _ (settling trace : Trace) (h : Settling (traceOf body) settling) (d : Delayed wait settling trace) where
     fit : (k : ℕ) → k < length trace → LatenciesFit (instruction trace k)
@@ -82,14 +88,20 @@ module _ (body : List ℕ) (wait : ℕ) (p : Passes (λ bytes. busRefusal bytes 
               (latency-fits (isLoad (kindOf (fieldsAt body k .kind)) or isStore (kindOf (fieldsAt body k .kind))) (settled .access) (delayed .dataWithin) (omega (arith, within .dataLatency)) (or-failed-r _ _ small));
         })
 
-    version-covered : EmbodiedVersion body wait trace
+    version-covered : EmbodiedVersion hits body wait trace
     version-covered =
         let is-body = delayed-are-bodies body (p .bytes) accepted settling trace wait h d fit in
         record {
           encoding = bodyOf trace;
           isVersion =
               record {
-                passes = record { bytes = is-body .0; passes = is-body .1 };
+                passes =
+                    record {
+                      bytes = is-body .0;
+                      passes =
+                          settled-of (bodyOf trace) hits (is-body .1)
+                          (version-passes hits body (passed-hits (timed hits body wait p)) settling wait (bodyOf trace) h (subst (Delayed wait settling) (sym (is-body .2)) d));
+                    };
                 settling = settling;
                 settles = h;
                 delays = subst (Delayed wait settling) (sym (is-body .2)) d;
@@ -98,15 +110,16 @@ module _ (body : List ℕ) (wait : ℕ) (p : Passes (λ bytes. busRefusal bytes 
         }
 
 pub time-holds : TimeHolds
-time-holds = (none-later, calls-none-later, version-covered)
+time-holds h = (none-later h, calls-none-later h, version-covered h)
 
-at-most-one : AtMostOne rules
-at-most-one body p cycles i j l m a b =
-    one-under-way (traceOf body) cycles i j a b (omega (arith, length-traceOf body)) (omega (arith, length-traceOf body))
+at-most-one : (h : ℕ) → AtMostOne h (rules h)
+at-most-one h body p cycles i j l m a b =
+    let same = length-hits h (traceOf body) in
+    one-under-way (traceWith body h) cycles i j a b (omega (arith, length-traceOf body)) (omega (arith, length-traceOf body))
 
-calls-at-most-one : AtMostOne calls
-calls-at-most-one body p cycles i j l m =
-    rw (run-answered body p cycles i l, run-answered body p cycles j m) (at-most-one body p cycles i j l m)
+calls-at-most-one : (h : ℕ) → AtMostOne h (calls h)
+calls-at-most-one h body p cycles i j l m =
+    rw (run-answered h body p cycles i l, run-answered h body p cycles j m) (at-most-one h body p cycles i j l m)
 
 pub one-at-a-time : OneAtATime
-one-at-a-time = (at-most-one, calls-at-most-one)
+one-at-a-time h = (at-most-one h, calls-at-most-one h)

@@ -3,42 +3,45 @@ use Prim.Native.Nat.{ℕ, _<_, _≤_}
 use mathlib.Core.List.{List}
 use mathlib.Core.Path.{_≡_, sym, subst, _∙_}
 use lib.ListN.{length, getD}
-use Rattle.record.specs.Body.{bodyRefusal}
+use Rattle.record.specs.Body.{timedRefusal}
 use Rattle.job.specs.Layout.{traces}
 use Rattle.job.specs.Open.{openBody}
-use Rattle.job.proofs.Part.{opened-accepted, opened-bytes}
+use Rattle.job.proofs.Part.{opened-bytes}
+use Rattle.timed_file.proofs.Hits.{body-timed}
 use Rattle.whole_job.specs.Answers.{jobRefusal, jobTimes}
 use Rattle.whole_job.specs.Claims.{Filled}
-use Rattle.whole_job.proofs.Given.{place-by-place}
+use Rattle.whole_job.proofs.Given.{accepted, place-by-place}
 use Rattle.claims.specs.Claim.{Passes, Engine, Holds, rules, calls}
 use Rattle.claims.specs.Job.{WorstTime, JobHolds}
 use Rattle.claims.proofs.Claim.{demand-3, worst-answered}
 
-module _ (file times : List ℕ) (p : Passes (λ bytes. jobRefusal bytes (length times)) file) (t : ℕ) (inside : t < traces file) where
-  filled : Filled file times
-  filled = place-by-place .filled file times (p .passes)
+module _ (h : ℕ) (file times : List ℕ) (p : Passes (λ bytes. jobRefusal bytes (length times)) h file) (t : ℕ) (inside : t < traces file) where
+  filled : Filled file times h
+  filled = place-by-place .filled file times h (p .passes)
 
-  body-passes : Passes bodyRefusal (openBody file t)
+  body-passes : Passes timedRefusal h (openBody file t)
   body-passes =
-      let opened = filled .opened t inside in
-      record { bytes = opened-bytes file t (p .bytes) opened; passes = opened-accepted file t opened }
+      record {
+        bytes = opened-bytes file t (p .bytes) (filled .opened t inside);
+        passes = body-timed file h (accepted file times h (p .passes)) t inside;
+      }
 
   -- of an engine whose worst time is the one that stands there
-  worst-holds : (engine : Engine) → Holds engine → engine .worst (openBody file t) ≡ getD (jobTimes file times) t 0 →
-      WorstTime engine (openBody file t) (getD (jobTimes file times) t 0)
+  worst-holds : (engine : Engine) → Holds h engine → engine .worst (openBody file t) ≡ getD (jobTimes file times h) t 0 →
+      WorstTime h engine (openBody file t) (getD (jobTimes file times h) t 0)
   worst-holds engine holds e =
-      subst (WorstTime engine (openBody file t)) e
+      subst (WorstTime h engine (openBody file t)) e
       (record {
         none-later = λ settling s. holds .enclosed (openBody file t) settling body-passes s .1;
         attained = holds .worstAttained (openBody file t) body-passes;
       })
 
-  stands : calls .worst (openBody file t) ≡ getD (jobTimes file times) t 0
+  stands : calls h .worst (openBody file t) ≡ getD (jobTimes file times h) t 0
   stands = sym (filled .first t inside)
 
 pub job-holds : JobHolds
-job-holds = (
+job-holds h = (
   λ file times p t l.
-      worst-holds file times p t l rules (demand-3 .0) (sym (worst-answered (openBody file t) (body-passes file times p t l)) ∙ stands file times p t l),
-  λ file times p t l. worst-holds file times p t l calls (demand-3 .1) (stands file times p t l),
+      worst-holds h file times p t l (rules h) (demand-3 h .0) (sym (worst-answered h (openBody file t) (body-passes h file times p t l)) ∙ stands h file times p t l),
+  λ file times p t l. worst-holds h file times p t l (calls h) (demand-3 h .1) (stands h file times p t l),
 )

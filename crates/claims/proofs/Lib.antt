@@ -3,3 +3,5 @@ pub mod BusCases
 pub mod Cases
 pub mod Claim
 pub mod Job
+pub mod Hits
+pub mod Zero

@@ -6,7 +6,7 @@ use mathlib.Core.Path.{_≡_}
 use Rattle.machine.specs.Instruction.{Trace, instruction}
 use Rattle.machine.specs.Rules.{after}
 use Rattle.machine.specs.Bus.{fetch-access, data-access, UnderWay}
-use Rattle.machine.specs.Cases.{cases, caseC, caseF, caseI, caseL}
+use Rattle.machine.specs.Cases.{cases, caseC, caseF, caseI, caseL, missAndHit}
 use Rattle.encoding.specs.Encoding.{bodyOf}
 use Rattle.timing.specs.Answers.{finishAnswer}
 use Rattle.bus.specs.Answers.{busAnswer}
@@ -19,7 +19,7 @@ given accesses time = record { refusal = 0; accesses = accesses; time = time }
 -- For a wait of 10: A, B, D and E have no access that is marked miss or unknown, H, J and L have two, the others one; each adds 10 to the worst time.
 abbrev pub BusAnswered : Type 0
 BusAnswered =
-    map (λ c. busAnswer (bodyOf (c .trace)) 10) cases
+    map (λ c. busAnswer (bodyOf (c .trace)) 10 0) cases
     ≡ given 0 0
     ∷ given 0 6
     ∷ given 1 26
@@ -38,14 +38,20 @@ BusAnswered =
 -- for C, whose load takes 10, the border is between 65,525 and 65,526.
 abbrev pub LongWaitDeclined : Type 0
 LongWaitDeclined =
-    (map (λ c. busAnswer (bodyOf (c .trace)) 65535 .refusal) cases ≡ 0 ∷ 0 ∷ 15 ∷ 0 ∷ 0 ∷ 15 ∷ 15 ∷ 15 ∷ 15 ∷ 15 ∷ 15 ∷ 15 ∷ [])
-    × (map (λ longest. busAnswer (bodyOf caseC) longest .refusal) (65525 ∷ 65526 ∷ []) ≡ 0 ∷ 15 ∷ [])
+    (map (λ c. busAnswer (bodyOf (c .trace)) 65535 0 .refusal) cases ≡ 0 ∷ 0 ∷ 15 ∷ 0 ∷ 0 ∷ 15 ∷ 15 ∷ 15 ∷ 15 ∷ 15 ∷ 15 ∷ 15 ∷ [])
+    × (map (λ longest. busAnswer (bodyOf caseC) longest 0 .refusal) (65525 ∷ 65526 ∷ []) ≡ 0 ∷ 15 ∷ [])
 
 -- a version finishes at the time given, so that no smaller time would hold
 pub record WaitsAttain (trace : Trace) (longest : ℕ) : Type 0 where
   pub version : List ℕ
-  pub isVersion : VersionOf (bodyOf trace) longest version
-  pub attains : finishAnswer version .time ≡ busAnswer (bodyOf trace) longest .time
+  pub isVersion : VersionOf 0 (bodyOf trace) longest version
+  pub attains : finishAnswer version 0 .time ≡ busAnswer (bodyOf trace) longest 0 .time
+
+-- document 02, F-4: data hits are not counted, and take h; the load that misses and the store hit of latency 16 behind it, with a wait of 10
+abbrev pub HitsOnBus : Type 0
+HitsOnBus =
+    map (λ h. busAnswer (bodyOf missAndHit) 10 h) (0 ∷ 3 ∷ 15 ∷ 16 ∷ [])
+    ≡ given 1 33 ∷ given 1 36 ∷ given 1 48 ∷ record { refusal = 17; accesses = 0; time = 0 } ∷ []
 
 -- a load alone, a fetch behind a load, a store alone; two accesses that are unknown
 abbrev pub TimeAttained : Type 0

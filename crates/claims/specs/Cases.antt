@@ -1,5 +1,5 @@
 -- Document 01's "Charts worked by hand" through the calls: what Finish, Best and worst, Run and Margin answer for the bodies of A to L, and for
--- those of document 02, F-3.
+-- those of document 02, F-3 and F-4.
 use Prim.Native.Nat.{ℕ, min}
 use mathlib.Core.Bool.{false, cond}
 use mathlib.Core.List.{List, _++_, map}
@@ -8,7 +8,7 @@ use lib.Dec.{leb}
 use lib.IntN.{pos, _-ℤ_}
 use Rattle.machine.specs.Rules.{after}
 use Rattle.machine.specs.State.{start, stateOf}
-use Rattle.machine.specs.Cases.{Case, cases, further, lateValues, chartOfD}
+use Rattle.machine.specs.Cases.{Case, timed, cases, further, lateValues, storeAndLoad, hitCases, chartOfD, chartOfHits}
 use Rattle.record.specs.Body.{firsts}
 use Rattle.encoding.specs.Encoding.{bodyOf}
 use Rattle.encoding.specs.Cases.{bytesOfD, known, refusalOf}
@@ -35,7 +35,7 @@ runOf c limit =
     (let cycles = min limit (c .worst) in
     record {
       refusal = 0;
-      state = stateOf (c .trace) (after (c .trace) cycles);
+      state = stateOf (timed c) (after (timed c) cycles);
       cycles = cycles;
       left = leb (c .worst) limit;
     })
@@ -47,16 +47,20 @@ marginOf c deadline = record { refusal = 0; margin = pos deadline -ℤ pos (c .w
 
 -- What each call answers for the bodies of cases is what document 01's times say, whatever the limit and the deadline.
 pub record Answered (table : List Case) : Type 0 where
-  pub finish : map (λ c. finishAnswer (bodyOf (c .trace))) table ≡ map finishOf table
-  pub bestWorst : map (λ c. bestWorstAnswer (bodyOf (c .trace))) table ≡ map bestWorstOf table
-  pub run : (limit : ℕ) → map (λ c. runAnswer (bodyOf (c .trace)) limit) table ≡ map (λ c. runOf c limit) table
-  pub margin : (deadline : ℕ) → map (λ c. marginAnswer (bodyOf (c .trace)) deadline) table ≡ map (λ c. marginOf c deadline) table
+  pub finish : map (λ c. finishAnswer (bodyOf (c .trace)) (c .hits)) table ≡ map finishOf table
+  pub bestWorst : map (λ c. bestWorstAnswer (bodyOf (c .trace)) (c .hits)) table ≡ map bestWorstOf table
+  pub run : (limit : ℕ) → map (λ c. runAnswer (bodyOf (c .trace)) limit (c .hits)) table ≡ map (λ c. runOf c limit) table
+  pub margin : (deadline : ℕ) → map (λ c. marginAnswer (bodyOf (c .trace)) deadline (c .hits)) table ≡ map (λ c. marginOf c deadline) table
 
--- "Proved: A to L", and the cases that they do not show, those of document 02, F-3, among them. Were every body refused, the claims over accepted
+-- "Proved: A to L", and the cases that they do not show, those of document 02, F-3 and F-4, among them. Were every body refused, the claims over accepted
 -- bodies would hold and say nothing.
 abbrev pub CasesAnswered : Type 0
-CasesAnswered = Answered (cases ++ further ++ lateValues)
+CasesAnswered = Answered (cases ++ further ++ lateValues ++ hitCases)
 
 -- D's chart, row by row, is what Run gives for the bytes that document 01 prints.
 abbrev pub ChartAnswered : Type 0
-ChartAnswered = firsts (λ limit. runAnswer bytesOfD limit .state) 9 ≡ chartOfD
+ChartAnswered = firsts (λ limit. runAnswer bytesOfD limit 0 .state) 9 ≡ chartOfD
+
+-- F-4's store hit and load hit with h = 2, the same way.
+abbrev pub HitChartAnswered : Type 0
+HitChartAnswered = firsts (λ limit. runAnswer (bodyOf storeAndLoad) limit 2 .state) 10 ≡ chartOfHits

@@ -3,3 +3,4 @@ pub mod BusCases
 pub mod Cases
 pub mod Claim
 pub mod Job
+pub mod Zero

@@ -4,6 +4,7 @@ ghost use mathlib.Core.Bool.{cond};
 ghost use Prim.Native.Nat.{suc, _≤_};
 ghost use lib.ListN.{length};
 ghost use Rattle.machine.specs.Instruction.{Trace};
+ghost use Rattle.machine.specs.Hits.{withHits};
 ghost use Rattle.machine.specs.State.{maxInstructions};
 ghost use Rattle.machine.proofs.BySlots.{occupied, storeInMEM, leaves, slotAfter, stepBySlots};
 ghost use Rattle.standing.specs.Inner.{Reads};
@@ -74,24 +75,24 @@ fn fetched_after(fetches: bool, fetched: u32) -> u32
 }
 
 // What comes into each slot is what leaves the one before; from MEM a store goes to ST.
-fn slots_after(s: State, w: Standing, moving: Bits, store: bool) -> State
+fn slots_after(s: State, w: Standing, moving: Bits, store: bool, hit_cycles: u32) -> State
     requires { ⌜ s .fetched ≤ maxInstructions ⌝ }
     ensures { λ r. ⌜ ((trace : Trace) →
         Reads trace s w →
         moving ≡ bitsOf (leaves trace s) →
         store ≡ storeInMEM trace s →
-        r ≡ stepBySlots trace s) ⌝ }
+        r ≡ stepBySlots (withHits «hit_cycles» trace) s) ⌝ }
 {
     State {
         fetched: fetched_after(moving.pre, s.fetched),
         IF: slot_after(moving.pre, s.fetched, count_in_if(w.pre), moving.IF, s.IF),
         ID: slot_after(moving.IF, s.IF.index, 0, moving.ID, s.ID),
         EX: slot_after(moving.ID, s.ID.index, w.ID.execution, moving.EX, s.EX),
-        MEM: slot_after(moving.EX, s.EX.index, count_in_mem(w.EX), moving.MEM, s.MEM),
+        MEM: slot_after(moving.EX, s.EX.index, count_in_mem(w.EX, hit_cycles), moving.MEM, s.MEM),
         ST: slot_after(
             moving.MEM & store,
             s.MEM.index,
-            count_in_st(w.MEM),
+            count_in_st(w.MEM, hit_cycles),
             moving.ST,
             s.ST,
         ),
@@ -114,9 +115,10 @@ fn all_stay(s: State) -> State
     }
 }
 
-pub fn cycle(n: u32, s: State, w: Standing) -> State
+// Of the trace whose instructions are read, where a data hit takes so many cycles.
+pub fn cycle(n: u32, s: State, w: Standing, hit_cycles: u32) -> State
     requires { ⌜ s .fetched ≤ maxInstructions ⌝ }
-    ensures { λ r. ⌜ ((trace : Trace) → Reads trace s w → length trace ≡ n → r ≡ stepBySlots trace s) ⌝ }
+    ensures { λ r. ⌜ ((trace : Trace) → Reads trace s w → length trace ≡ n → r ≡ stepBySlots (withHits «hit_cycles» trace) s) ⌝ }
 {
     let starting = starts(n, s, w);
     if none(starting) {
@@ -124,5 +126,5 @@ pub fn cycle(n: u32, s: State, w: Standing) -> State
     }
     let store = is_store(w.MEM);
     let moving = leaving(mask(starting), mask(full(n, s)), store);
-    slots_after(s, w, moving, store)
+    slots_after(s, w, moving, store, hit_cycles)
 }

@@ -1,17 +1,18 @@
 -- Counts on entry by the numbers of a record's fields.
 use Prim.Native.Nat.{ℕ, _+_, _-_}
-use mathlib.Core.Bool.{Bool, cond, _&&_}
-use mathlib.Core.Path.{_≡_, ap, _∙_}
+use mathlib.Core.Bool.{Bool, true, false, cond, _||_}
+use mathlib.Core.Path.{_≡_, refl, ap, _∙_}
 use native.Mathlib.Omega.{arith}
 use Rattle.machine.specs.Test.{_and_, _or_}
 use Rattle.machine.specs.Instruction.{Instruction}
 use Rattle.machine.specs.Rules.{Stage, IF, MEM, ST, isLoad, isStore, misses, entry, missesData}
-use Rattle.machine.proofs.Connectives.{Value, passed, failed, value}
+use Rattle.machine.proofs.Connectives.{Value, passed, failed, value, or-r}
+use Rattle.machine.specs.Hits.{withHit}
 use Rattle.machine.proofs.Window.{lastCount}
 use Rattle.record.specs.declared.layout.Fields.{Fields}
 use Rattle.record.specs.Rules.{instructionOf}
 use Rattle.decode.specs.Inner.{AccessLawful}
-use Rattle.decode.proofs.Joined.{both}
+use Rattle.decode.proofs.Joined.{either}
 
 -- equal instructions have equal counts
 pub entry-of : (k : Stage) {i j : Instruction} → i ≡ j → entry i k ≡ entry j k
@@ -26,16 +27,22 @@ misses-only i lawful (failed e) = rw (e, lawful .no-access e)
 pub misses-alone : (i : Instruction) → AccessLawful i → misses (i .access) ≡ missesData i
 misses-alone i lawful = misses-only i lawful (value (isLoad (i .kind) or isStore (i .kind)))
 
+-- the cycles that a hit takes, of a load, of a store, and one more
+load-hit : (load store missed : Bool) (n h : ℕ) → cond load (cond missed n h) 0 ≡ cond load (cond missed n (cond (load or store) h 0)) 0
+unfolding _or_
+load-hit true store missed n h = refl
+load-hit false store missed n h = refl
+
 cycles-more
-    : (i : Instruction) →
+    : (h : ℕ) (i : Instruction) →
     AccessLawful i →
     Value (isStore (i .kind)) →
     Value (misses (i .access)) →
-    cond (isStore (i .kind) && misses (i .access)) (i .dataLatency) 1 ≡ lastCount i + 1
+    cond (isStore (i .kind)) (cond (misses (i .access)) (i .dataLatency) (h + 1)) 1 ≡ lastCount (withHit h i) + 1
 unfolding lastCount entry
-cycles-more i lawful (passed e) (passed m) = rw (e, m) (let some = lawful .some-access e in omega arith)
-cycles-more i lawful (passed e) (failed m) = rw (e, m)
-cycles-more i lawful (failed e) m = rw e
+cycles-more h i lawful (passed e) (passed m) = rw (e, m) (let some = lawful .some-access e in omega arith)
+cycles-more h i lawful (passed e) (failed m) = rw (or-r (isLoad (i .kind)) _ e, e, m)
+cycles-more h i lawful (failed e) m = rw e
 
 module _ (f : Fields) where
   abbrev i : Instruction
@@ -45,29 +52,43 @@ module _ (f : Fields) where
   unfolding instructionOf entry
   IF-count m q = q ∙ rw m
 
-  pub MEM-count : {load missed : Bool} {r : ℕ} →
-      load ≡ isLoad (i .kind) →
-      missed ≡ misses (i .access) →
-      r ≡ cond (load && missed) (f .«data_latency») 0 →
-      r ≡ entry i MEM
-  unfolding instructionOf entry
-  MEM-count p m q = q ∙ rw (both _ _, p, m)
+  module _ (h : ℕ) where
+    pub MEM-count : {load missed : Bool} {taken r : ℕ} →
+        load ≡ isLoad (i .kind) →
+        missed ≡ misses (i .access) →
+        taken ≡ cond missed (f .«data_latency») h →
+        r ≡ cond load taken 0 →
+        r ≡ entry (withHit h i) MEM
+    unfolding instructionOf entry
+    MEM-count p m t q = q ∙ rw (t, p, m) (load-hit (isLoad (i .kind)) (isStore (i .kind)) (misses (i .access)) (f .«data_latency») h)
 
-  pub ST-count : {missed : Bool} {late r : ℕ} → missed ≡ misses (i .access) → late ≡ f .«data_latency» - 1 → r ≡ cond missed late 0 → r ≡ entry i ST
-  unfolding instructionOf entry
-  ST-count m p q = q ∙ rw (m, p)
+    pub ST-count : {load store missed : Bool} {hit late r : ℕ} →
+        load ≡ isLoad (i .kind) →
+        store ≡ isStore (i .kind) →
+        hit ≡ cond (load || store) h 0 →
+        missed ≡ misses (i .access) →
+        late ≡ f .«data_latency» - 1 →
+        r ≡ cond missed late hit →
+        r ≡ entry (withHit h i) ST
+    unfolding instructionOf entry
+    ST-count l s t m p q = q ∙ rw (t, either _ _, l, s, m, p)
 
-  pub last-count : {store : Bool} {late r : ℕ} → store ≡ isStore (i .kind) → late ≡ entry i ST → r ≡ cond store late 0 → r ≡ lastCount i
-  unfolding lastCount
-  last-count p q s = s ∙ rw (p, q)
+    pub last-count : {store : Bool} {late r : ℕ} →
+        store ≡ isStore (i .kind) →
+        late ≡ entry (withHit h i) ST →
+        r ≡ cond store late 0 →
+        r ≡ lastCount (withHit h i)
+    unfolding lastCount
+    last-count p q s = s ∙ rw (p, q)
 
-  -- one cycle more than the count, which for a store that misses is the latency less 1
-  pub last-cycles
-      : AccessLawful i →
-      {store missed : Bool} {r : ℕ} →
-      store ≡ isStore (i .kind) →
-      missed ≡ misses (i .access) →
-      r ≡ cond (store && missed) (f .«data_latency») 1 →
-      r ≡ lastCount i + 1
-  unfolding instructionOf
-  last-cycles lawful p m q = q ∙ rw (p, m) (cycles-more i lawful (value (isStore (i .kind))) (value (misses (i .access))))
+    -- one cycle more than the count, which for a store that misses is the latency less 1
+    pub last-cycles
+        : AccessLawful i →
+        {store missed : Bool} {taken r : ℕ} →
+        store ≡ isStore (i .kind) →
+        missed ≡ misses (i .access) →
+        taken ≡ cond missed (f .«data_latency») (h + 1) →
+        r ≡ cond store taken 1 →
+        r ≡ lastCount (withHit h i) + 1
+    unfolding instructionOf
+    last-cycles lawful p m t q = q ∙ rw (t, p, m) (cycles-more h i lawful (value (isStore (i .kind))) (value (misses (i .access))))

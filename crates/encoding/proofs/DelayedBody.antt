@@ -50,6 +50,7 @@ module _ (onFetch onData : ℕ) (i : Instruction) where
         executionLatency = l .executionLatency;
         fetchLatency = fit .fetch;
         dataLatency = fit .access;
+        hitCycles = l .hitCycles;
         rules = breaks-record (withWaits onFetch onData i) ∙ keeps-rules (flags i) (sym (breaks-record i) ∙ l .rules);
       }
 

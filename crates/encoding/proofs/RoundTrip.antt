@@ -8,10 +8,13 @@ use native.Mathlib.Omega.{arith}
 use lib.ListN.{length}
 use lib.Seq.{ext-getD}
 use Rattle.machine.specs.Instruction.{Instruction, Trace, instruction, blank}
+use Rattle.machine.specs.Hits.{withHit, withHits}
+use Rattle.machine.proofs.Hits.{length-hits, instruction-hits}
 use Rattle.little_endian.specs.Numbers.{byte}
 use Rattle.record.specs.Layout.{recordSize, flagsAt, fetchLatencyAt, dataLatencyAt, fieldsFrom, recordBytes}
 use Rattle.record.specs.Rules.{instructionOf, fieldsOf}
-use Rattle.record.specs.Body.{Bytes, records, fieldsAt, breaksAt, firsts, traceOf, bodyRefusal}
+use Rattle.record.specs.Body.{Bytes, records, fieldsAt, breaksAt, firsts, traceOf, traceWith, bodyRefusal}
+use Rattle.record.specs.declared.layout.Fields.{Fields}
 use Rattle.encoding.specs.Encoding.{recordOf, bodyOf}
 use Rattle.encoding.specs.Claims.{AcceptedIsEncoded, EncodingIsDecoded}
 use Rattle.record.proofs.Alike.{fields-alike}
@@ -71,10 +74,17 @@ accepted-is-encoded body b accepted =
     place
     (byte-again body b accepted k j inside (omega arith))
 
--- the instruction that the record of an instruction stands for is that instruction
-decoded : (i : Instruction) → instructionOf (fieldsFrom (recordOf i) 0) ≡ i
+-- the instruction that the record of an instruction stands for is that instruction, but for the cycles of a data hit, which a record has not
+decoded : (h : ℕ) (i : Instruction) → withHit h (instructionOf (fieldsFrom (recordOf i) 0)) ≡ withHit h i
 unfolding fieldsOf instructionOf
-decoded i = ap instructionOf (fields-of i) ∙ rw (kindOf-number (i .kind), flagOf-number (i .fetch), flagOf-number (i .access))
+decoded h i =
+    ap (λ (f : Fields). withHit h (instructionOf f)) (fields-of i)
+    ∙ rw (kindOf-number (i .kind), flagOf-number (i .fetch), flagOf-number (i .access))
+
+decoded-none : (i : Instruction) → i .hitCycles ≡ 0 → instructionOf (fieldsFrom (recordOf i) 0) ≡ i
+unfolding fieldsOf instructionOf
+decoded-none i none =
+    ap instructionOf (fields-of i) ∙ rw (kindOf-number (i .kind), flagOf-number (i .fetch), flagOf-number (i .access), none)
 
 module _ (trace : Trace) (k : ℕ) (l : k < length trace) where
   record-byte : (j : ℕ) → j < recordSize → byte (bodyOf trace) (k * recordSize + j) ≡ byte (recordOf (instruction trace k)) (0 + j)
@@ -88,20 +98,31 @@ module _ (trace : Trace) (k : ℕ) (l : k < length trace) where
   breaks-bodyOf = rw (fields-bodyOf, record-byte flagsAt (omega arith))
 
 -- this holds whether or not the records keep the rules, since every kind and flag has a number and the definitions put no limit on a half
-pub trace-again : (trace : Trace) → traceOf (bodyOf trace) ≡ trace
-trace-again trace =
-    ext-getD blank (traceOf (bodyOf trace)) trace same-length λ k l.
-    let inside : k < length trace = omega (arith, same-length) in
-    instruction-traceOf (bodyOf trace) k (omega (arith, records-bodyOf trace))
-    ∙ ap instructionOf (fields-bodyOf trace k inside)
-    ∙ decoded (instruction trace k)
-  where
-    same-length : length (traceOf (bodyOf trace)) ≡ length trace
-    same-length = length-traceOf (bodyOf trace) ∙ records-bodyOf trace
+module _ (trace : Trace) where
+  same-length : length (traceOf (bodyOf trace)) ≡ length trace
+  same-length = length-traceOf (bodyOf trace) ∙ records-bodyOf trace
+
+  pub trace-again : ((k : ℕ) → k < length trace → instruction trace k .hitCycles ≡ 0) → traceOf (bodyOf trace) ≡ trace
+  trace-again none =
+      ext-getD blank (traceOf (bodyOf trace)) trace same-length λ k l.
+      let inside : k < length trace = omega (arith, same-length) in
+      instruction-traceOf (bodyOf trace) k (omega (arith, records-bodyOf trace))
+      ∙ ap instructionOf (fields-bodyOf trace k inside)
+      ∙ decoded-none (instruction trace k) (none k inside)
+
+  -- with the cycles of a data hit given, whichever the trace had
+  pub timed-again : (h : ℕ) → traceWith (bodyOf trace) h ≡ withHits h trace
+  timed-again h =
+      ext-getD blank (traceWith (bodyOf trace) h) (withHits h trace) (length-hits h (traceOf (bodyOf trace)) ∙ same-length ∙ sym (length-hits h trace)) λ k l.
+      let inside : k < length trace = omega (arith, length-hits h (traceOf (bodyOf trace)), same-length) in
+      instruction-hits h (traceOf (bodyOf trace)) k
+      ∙ ap (withHit h) (instruction-traceOf (bodyOf trace) k (omega (arith, records-bodyOf trace)) ∙ ap instructionOf (fields-bodyOf trace k inside))
+      ∙ decoded h (instruction trace k)
+      ∙ sym (instruction-hits h trace k)
 
 pub encoding-is-decoded : EncodingIsDecoded
 encoding-is-decoded trace few lawful = (
-  trace-again trace,
+  trace-again trace (λ k l. lawful k l .hitCycles),
   encoding-is-bytes trace lawful,
   accepted-of (bodyOf trace) (rw (records-bodyOf trace) (length-bodyOf trace)) (rw (records-bodyOf trace) few) λ k l.
       let inside : k < length trace = omega (arith, records-bodyOf trace) in

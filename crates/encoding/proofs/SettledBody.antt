@@ -11,10 +11,10 @@ use Rattle.machine.specs.State.{maxInstructions}
 use Rattle.machine.proofs.Settled.{settled-known, settling-length, settling-at, only-settling}
 use Rattle.machine.proofs.Settlings.{settles}
 use Rattle.record.specs.Rules.{hasUnknown, flagOf, instructionOf}
-use Rattle.record.specs.Body.{Bytes, records, fieldsAt, breaksAt, unknownAt, traceOf, bodyRefusal, settledRefusal}
+use Rattle.record.specs.Body.{Bytes, records, fieldsAt, breaksAt, unknownAt, traceOf, bodyRefusal, knownRefusal}
 use Rattle.encoding.specs.Encoding.{bodyOf, settledBody}
 use Rattle.encoding.specs.Claims.{Lawful, SettlingsAreBodies}
-use Rattle.record.proofs.Accepted.{settled-of, few-records, breaks-none, fields-within, settled-accepted, flags-known}
+use Rattle.record.proofs.Accepted.{known-of, few-records, breaks-none, fields-within, known-accepted, flags-known}
 use Rattle.record.proofs.Instructions.{length-traceOf, instruction-traceOf}
 use Rattle.encoding.proofs.Encoding.{records-bodyOf}
 use Rattle.encoding.proofs.RoundTrip.{fields-bodyOf, accepted-is-encoded, encoding-is-decoded}
@@ -26,12 +26,12 @@ pub trace-is-body :
     length trace ≤ maxInstructions →
     ((k : ℕ) → k < length trace → Lawful (instruction trace k)) →
     ((k : ℕ) → k < length trace → Known (instruction trace k)) →
-    Bytes (bodyOf trace) × (settledRefusal (bodyOf trace) ≡ 0) × (traceOf (bodyOf trace) ≡ trace)
+    Bytes (bodyOf trace) × (knownRefusal (bodyOf trace) ≡ 0) × (traceOf (bodyOf trace) ≡ trace)
 unfolding unknownAt
 trace-is-body trace few lawful known =
     let decoded = encoding-is-decoded trace few lawful in (
       decoded .1,
-      settled-of (bodyOf trace) (decoded .2) λ k l.
+      known-of (bodyOf trace) (decoded .2) λ k l.
           let inside : k < length trace = omega (arith, records-bodyOf trace) in
           ap hasUnknown (fields-bodyOf trace k inside) ∙ known-record (instruction trace k) (known k inside),
       decoded .0,
@@ -60,7 +60,7 @@ module _ (body : List ℕ) (b : Bytes body) (accepted : bodyRefusal body ≡ 0) 
   pub settling-known : (k : ℕ) → k < length settling → Known (instruction settling k)
   settling-known k l = settled-known (settled-at k (omega (arith, same-length)))
 
-  settling-is-body : Bytes (bodyOf settling) × (settledRefusal (bodyOf settling) ≡ 0) × (traceOf (bodyOf settling) ≡ settling)
+  settling-is-body : Bytes (bodyOf settling) × (knownRefusal (bodyOf settling) ≡ 0) × (traceOf (bodyOf settling) ≡ settling)
   settling-is-body = trace-is-body settling settling-few settling-lawful settling-known
 
 pub settlings-are-bodies : SettlingsAreBodies
@@ -68,14 +68,14 @@ settlings-are-bodies = settling-is-body
 
 -- The settling of a body in which every unknown flag becomes `to`, a hit or a miss.
 module _ (to : Flag) (u : Settled unknown to) (body : List ℕ) (b : Bytes body) (accepted : bodyRefusal body ≡ 0) where
-  as-body : Bytes (settledBody to body) × (settledRefusal (settledBody to body) ≡ 0) × (traceOf (settledBody to body) ≡ settle to (traceOf body))
+  as-body : Bytes (settledBody to body) × (knownRefusal (settledBody to body) ≡ 0) × (traceOf (settledBody to body) ≡ settle to (traceOf body))
   unfolding settledBody
   as-body = settlings-are-bodies body b accepted (settle to (traceOf body)) (settles to u (traceOf body))
 
   pub settled-body-bytes : Bytes (settledBody to body)
   settled-body-bytes = as-body .0
 
-  pub settled-body-passes : settledRefusal (settledBody to body) ≡ 0
+  pub settled-body-passes : knownRefusal (settledBody to body) ≡ 0
   settled-body-passes = as-body .1
 
   pub settled-body-decoded : traceOf (settledBody to body) ≡ settle to (traceOf body)
@@ -91,7 +91,7 @@ flag-known zero l e = let z : _≡_ {A = ℕ} 0 1 = cc in omega arith
 flag-known (suc zero) l e = let z : _≡_ {A = ℕ} 0 1 = cc in omega arith
 flag-known (suc (suc n)) l e = absurd (omega arith)
 
-module _ (body : List ℕ) (b : Bytes body) (settled : settledRefusal body ≡ 0) where
+module _ (body : List ℕ) (b : Bytes body) (settled : knownRefusal body ≡ 0) where
   pub trace-known : (k : ℕ) → k < length (traceOf body) → Known (instruction (traceOf body) k)
   unfolding instructionOf
   trace-known k l =
@@ -105,4 +105,4 @@ module _ (body : List ℕ) (b : Bytes body) (settled : settledRefusal body ≡ 0
 
   pub settled-body : (to : Flag) → Settled unknown to → settledBody to body ≡ body
   unfolding settledBody
-  settled-body to u = ap bodyOf (settled-trace to u) ∙ accepted-is-encoded body b (settled-accepted body settled)
+  settled-body to u = ap bodyOf (settled-trace to u) ∙ accepted-is-encoded body b (known-accepted body settled)

@@ -102,6 +102,7 @@ module _ (f : Fields) (s : Instruction) (h : SettledInstruction (instructionOf f
         executionLatency = rw (h .executionLatency) (omega (arith, w .execution));
         fetchLatency = rw (h .fetchLatency) (omega (arith, w .fetchLatency .1));
         dataLatency = rw (h .dataLatency) (omega (arith, w .dataLatency));
+        hitCycles = h .hitCycles;
         rules = ap (λ (g : Fields). breaksRules g (fetch + 4 * access)) (fields-settled w) ∙ keeps-rules flags lawful;
       }
 

@@ -8,7 +8,7 @@ use Rattle.machine.specs.Instruction.{Flag, hit, miss, unknown, Trace}
 use Rattle.machine.specs.Cases.{Case}
 use Rattle.record.specs.Refusal.{unknownFlag}
 use Rattle.encoding.specs.Encoding.{bodyOf}
-use Rattle.record.specs.Body.{bodyRefusal, settledRefusal}
+use Rattle.record.specs.Body.{timedRefusal, settledRefusal}
 
 -- D's body as document 01 prints it: the chart program's hex input from the ninth byte on
 abbrev pub bytesOfD : List ℕ
@@ -29,8 +29,10 @@ known (i ∷ trace) = not (isUnknown (i .fetch)) and not (isUnknown (i .access))
 unfoldable pub refusalOf : Trace → ℕ
 refusalOf trace = cond (known trace) 0 unknownFlag
 
--- neither 10 nor 8 refuses the body of a case, and 11 only one with an unknown flag
+-- none of 10, 8 and 17 refuses the body of a case, and 11 only one with an unknown flag
 unfoldable pub casesAccepted : List Case → Bool
 casesAccepted [] = true
 casesAccepted (c ∷ cs) =
-    eqb (bodyRefusal (bodyOf (c .trace))) 0 and eqb (settledRefusal (bodyOf (c .trace))) (refusalOf (c .trace)) and casesAccepted cs
+    eqb (timedRefusal (bodyOf (c .trace)) (c .hits)) 0
+    and eqb (settledRefusal (bodyOf (c .trace)) (c .hits)) (refusalOf (c .trace))
+    and casesAccepted cs

@@ -5,6 +5,7 @@ use mathlib.Core.Path.{_≡_, _∙_}
 use native.Mathlib.Omega.{arith}
 use Rattle.machine.specs.Instruction.{Instruction}
 use Rattle.machine.specs.Rules.{IF, EX, MEM, isStore, hits, entry, readsInID, missesData}
+use Rattle.machine.specs.Hits.{withHit}
 use Rattle.machine.proofs.Window.{enterIF, enterID, enterEX, enterMEM, enterLast}
 use Rattle.record.specs.declared.layout.Fields.{Fields}
 use Rattle.record.specs.Rules.{instructionOf}
@@ -57,11 +58,11 @@ module _ (f : Fields) where
     MEM-step from {store = store} a b c d = d ∙ rw (c, max-joins (from + (f .execution + 1)) (w .last) store, sum-joins from (f .execution) 1, b, a)
 
     pub last-step
-        : (from : ℕ) {count store r : ℕ} {stores : Bool} →
-        count ≡ entry i MEM →
+        : (from h : ℕ) {count store r : ℕ} {stores : Bool} →
+        count ≡ entry (withHit h i) MEM →
         stores ≡ isStore (i .kind) →
         store ≡ cond stores (w .«store_done») 0 →
         r ≡ max (from + (count + 1)) store →
-        r ≡ enterLast (windowOf w) i from
+        r ≡ enterLast (windowOf w) (withHit h i) from
     unfolding enterLast
-    last-step from a b c d = d ∙ rw (a, sum-joins from (entry i MEM) 1, c, b)
+    last-step from h a b c d = d ∙ rw (a, sum-joins from (entry (withHit h i) MEM) 1, c, b)

@@ -1,8 +1,9 @@
 // The time at which an instruction enters each stage, from what the window remembers of those
 // before it. Times are numbers of cycles from the start; 0 stands for none.
 ghost use mathlib.Core.Path.{_≡_};
-ghost use Prim.Native.Nat.{_+_, _<_, _^_};
+ghost use Prim.Native.Nat.{_+_, _<_, _≤_, _^_};
 ghost use Rattle.machine.specs.Rules.{IF, EX, MEM, entry};
+ghost use Rattle.machine.specs.Hits.{withHit};
 ghost use Rattle.machine.proofs.Window.{
   enterIF,
   enterID,
@@ -13,6 +14,7 @@ ghost use Rattle.machine.proofs.Window.{
   enterPost,
 };
 ghost use Rattle.record.specs.Rules.{instructionOf};
+ghost use Rattle.record.specs.Body.{maxHitCycles};
 ghost use Rattle.decode.specs.Inner.{AccessLawful};
 ghost use Rattle.entering.specs.Inner.{windowOf};
 use decode::access_misses;
@@ -46,7 +48,7 @@ pub struct Window {
 
 // One function for each stage: the latest of the instruction's own arrival, the stage becoming
 // free, and what it waits for. `from` is when it entered the stage before. This is known last, so
-// only one sum and one choice depend on it.
+// only one sum and one choice depend on it. The cycles of a data hit matter for the stages after MEM.
 pub fn enter_if(w: Window, f: Fields) -> u32
     ensures { λ r. ⌜ r ≡ enterIF (windowOf w) (instructionOf f) ⌝ }
 {
@@ -81,19 +83,19 @@ pub fn enter_mem(w: Window, f: Fields, from: u32) -> u32
     later(from + (f.execution + 1), later(w.last, store))
 }
 
-pub fn enter_last(w: Window, f: Fields, from: u32) -> u32
-    requires { ⌜ from + entry (instructionOf f) MEM + 1 < 2 ^ 32 ⌝ }
-    ensures { λ r. ⌜ r ≡ enterLast (windowOf w) (instructionOf f) from ⌝ }
+pub fn enter_last(w: Window, f: Fields, from: u32, hit_cycles: u32) -> u32
+    requires { ⌜ from + entry (withHit «hit_cycles» (instructionOf f)) MEM + 1 < 2 ^ 32 ⌝ }
+    ensures { λ r. ⌜ r ≡ enterLast (windowOf w) (withHit «hit_cycles» (instructionOf f)) from ⌝ }
 {
     later(
-        from + (count_in_mem(f) + 1),
+        from + (count_in_mem(f, hit_cycles) + 1),
         choose(is_store(f), w.store_done, 0),
     )
 }
 
-pub fn enter_post(f: Fields, from: u32) -> u32
-    requires { ⌜ (from + lastCount (instructionOf f) + 1 < 2 ^ 32) × AccessLawful (instructionOf f) ⌝ }
-    ensures { λ r. ⌜ r ≡ enterPost (instructionOf f) from ⌝ }
+pub fn enter_post(f: Fields, from: u32, hit_cycles: u32) -> u32
+    requires { ⌜ (from + lastCount (withHit «hit_cycles» (instructionOf f)) + 1 < 2 ^ 32) × AccessLawful (instructionOf f) × («hit_cycles» ≤ maxHitCycles) ⌝ }
+    ensures { λ r. ⌜ r ≡ enterPost (withHit «hit_cycles» (instructionOf f)) from ⌝ }
 {
-    from + cycles_in_last(f)
+    from + cycles_in_last(f, hit_cycles)
 }

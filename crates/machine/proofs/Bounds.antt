@@ -1,15 +1,15 @@
 -- Upper bounds on times: a level is entered after at most one cycle for each level of each instruction up to there, plus their entry counts. So the
 -- finishing time is at most document 01's sum, and for traces within the format's limits that sum is at most 537,931,776.
 use Prim.Native.Nat.{ℕ, zero, suc, _+_, _*_, _≤_, _<_}
-use mathlib.Core.Bool.{Bool, true, false}
+use mathlib.Core.Bool.{Bool, true, false, cond}
 use mathlib.Core.Path.{_≡_}
 use native.Mathlib.Omega.{arith}
 use mathlib.Core.List.{[], _∷_}
 use lib.ListN.{length, take}
-use Rattle.machine.specs.Test.{_and_}
+use Rattle.machine.specs.Test.{_or_}
 use Rattle.machine.specs.Instruction.{Instruction, Trace, instruction}
-use Rattle.machine.specs.Rules.{misses}
-use Rattle.machine.specs.Time.{bound, mostCycles, maxTime}
+use Rattle.machine.specs.Rules.{hasAccess, misses}
+use Rattle.machine.specs.Time.{dataCycles, bound, mostCycles, maxTime}
 use Rattle.machine.specs.State.{maxInstructions}
 use Rattle.machine.proofs.Numbers.{by-age, sum, sum-mono}
 use Rattle.machine.proofs.Schedule.{Behaviour, Together, early, late, together, enters, done, starts, least}
@@ -65,24 +65,24 @@ fetch-count : (x : Bool) (n : ℕ) → fetchCount x n ≤ n
 fetch-count true n = omega arith
 fetch-count false n = omega arith
 
-data-count : {h l s : Bool} → Does h l s → (m : Bool) (n : ℕ) → dataCount l s m n ≤ n
-unfolding _and_
-data-count holding m n = omega arith
-data-count loading true n = omega arith
-data-count loading false n = omega arith
-data-count storing true n = omega arith
-data-count storing false n = omega arith
-data-count nothing m n = omega arith
+data-count : {h l s : Bool} → Does h l s → (m : Bool) (n a : ℕ) → dataCount l s m n a ≤ cond (l or s) (cond m n a) 0
+unfolding _or_
+data-count holding m n a = omega arith
+data-count loading true n a = omega arith
+data-count loading false n a = omega arith
+data-count storing true n a = omega arith
+data-count storing false n a = omega arith
+data-count nothing m n a = omega arith
 
-counts-bounded : (i : Instruction) → sum (countAt i) 6 ≤ i .executionLatency + i .fetchLatency + i .dataLatency
+counts-bounded : (i : Instruction) → sum (countAt i) 6 ≤ i .executionLatency + i .fetchLatency + dataCycles i
 counts-bounded i =
     let f = fetch-count (misses (i .fetch)) (i .fetchLatency) in
     let e = counts-are i in
-    let d = data-count (does (i .kind)) (misses (i .access)) (i .dataLatency) in
+    let d = data-count (does (i .kind)) (misses (i .access)) (i .dataLatency) (i .hitCycles) in
     omega arith
 
 bound-step : (trace : Trace) (k : ℕ) → k < length trace →
-    bound (take (suc k) trace) ≡ bound (take k trace) + (6 + instruction trace k .executionLatency + instruction trace k .fetchLatency + instruction trace k .dataLatency)
+    bound (take (suc k) trace) ≡ bound (take k trace) + (6 + instruction trace k .executionLatency + instruction trace k .fetchLatency + dataCycles (instruction trace k))
 unfolding bound
 bound-step [] k l = absurd (omega arith)
 bound-step (i ∷ trace) zero l = omega arith
@@ -118,6 +118,12 @@ pub record Limited (i : Instruction) : Type 0 where
   pub executionLatency : i .executionLatency ≤ 255
   pub fetchLatency : i .fetchLatency ≤ 65535
   pub dataLatency : i .dataLatency ≤ 65535
+  pub hitCycles : i .hitCycles ≤ 65535
+
+data-limited : (x m : Bool) {n a : ℕ} → n ≤ 65535 → a ≤ 65535 → cond x (cond m n a) 0 ≤ 65535
+data-limited true true l h = l
+data-limited true false l h = h
+data-limited false m l h = omega arith
 
 each-limited : (trace : Trace) → ((i : ℕ) → i < length trace → Limited (instruction trace i)) → bound trace ≤ mostCycles * length trace
 unfolding bound
@@ -125,6 +131,7 @@ each-limited [] h = omega arith
 each-limited (i ∷ trace) h =
     let p = each-limited trace (λ k l. h (suc k) (omega arith)) in
     let q : Limited i = h 0 (omega arith) in
+    let d = data-limited (hasAccess (i .kind)) (misses (i .access)) (q .dataLatency) (q .hitCycles) in
     omega arith
 
 pub bound-limited : (trace : Trace) → length trace ≤ maxInstructions → ((i : ℕ) → i < length trace → Limited (instruction trace i)) → bound trace ≤ maxTime

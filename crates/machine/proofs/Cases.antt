@@ -1,23 +1,28 @@
--- A to L, D's chart and what F-3 amends hold, by computation.
+-- A to L, D's chart and what F-3 and F-4 amend hold, by computation.
 use mathlib.Core.Path.{refl}
 use Rattle.machine.specs.Test.{_and_, _or_, every, none}
 use Rattle.machine.specs.Rules.{next, further as furtherOn, shortOf, entry, noOlder, readsInID, readsInEX, missesData, readyIn, ready, budget, movesWithin, moves, cycle, allPre, after, allLeft}
 use Rattle.machine.specs.Time.{bound, leastFrom, finish, settle, best, worst}
+use Rattle.machine.specs.Hits.{withHits}
 use Rattle.machine.specs.State.{fetchedBelow, occupantBelow, stateOf}
-use Rattle.machine.specs.Cases.{cases, further, valueLoaded, nothingLoaded, lateValues, casesHold, caseD, rows, chartOfD, chartOfValue}
-use Rattle.machine.specs.Claims.{CasesHold, FurtherHold, LateValuesHold, ChartHolds, ValueChartHolds, ValueWaits}
+use Rattle.machine.specs.Cases.{cases, further, valueLoaded, nothingLoaded, lateValues, storeAndLoad, hitCases, casesHold, caseD, rows, chartOfD, chartOfValue, chartOfHits}
+use Rattle.machine.specs.Claims.{CasesHold, FurtherHold, LateValuesHold, HitCasesHold, ChartHolds, ValueChartHolds, HitChartHolds, ValueWaits}
 
 pub cases-hold : CasesHold
-unfolding _and_ _or_ every none next furtherOn shortOf entry noOlder readsInID readsInEX missesData readyIn ready budget movesWithin moves cycle allPre after allLeft bound leastFrom finish settle best worst cases casesHold
+unfolding _and_ _or_ every none next furtherOn shortOf entry noOlder readsInID readsInEX missesData readyIn ready budget movesWithin moves cycle allPre after allLeft bound leastFrom finish settle best worst withHits cases casesHold
 cases-hold = tt
 
 pub further-hold : FurtherHold
-unfolding _and_ _or_ every none next furtherOn shortOf entry noOlder readsInID readsInEX missesData readyIn ready budget movesWithin moves cycle allPre after allLeft bound leastFrom finish settle best worst further casesHold
+unfolding _and_ _or_ every none next furtherOn shortOf entry noOlder readsInID readsInEX missesData readyIn ready budget movesWithin moves cycle allPre after allLeft bound leastFrom finish settle best worst withHits further casesHold
 further-hold = tt
 
 pub late-values-hold : LateValuesHold
-unfolding _and_ _or_ every none next furtherOn shortOf entry noOlder readsInID readsInEX missesData readyIn ready budget movesWithin moves cycle allPre after allLeft bound leastFrom finish settle best worst lateValues casesHold
+unfolding _and_ _or_ every none next furtherOn shortOf entry noOlder readsInID readsInEX missesData readyIn ready budget movesWithin moves cycle allPre after allLeft bound leastFrom finish settle best worst withHits lateValues casesHold
 late-values-hold = tt
+
+pub hit-cases-hold : HitCasesHold
+unfolding _and_ _or_ every none next furtherOn shortOf entry noOlder readsInID readsInEX missesData readyIn ready budget movesWithin moves cycle allPre after allLeft bound leastFrom finish settle best worst withHits hitCases casesHold
+hit-cases-hold = tt
 
 pub chart-holds : ChartHolds
 unfolding _and_ _or_ every none next furtherOn shortOf entry noOlder readsInID readsInEX missesData readyIn ready budget movesWithin moves cycle allPre after fetchedBelow occupantBelow stateOf caseD rows chartOfD
@@ -26,6 +31,10 @@ chart-holds = refl
 pub value-chart-holds : ValueChartHolds
 unfolding _and_ _or_ every none next furtherOn shortOf entry noOlder readsInID readsInEX missesData readyIn ready budget movesWithin moves cycle allPre after fetchedBelow occupantBelow stateOf valueLoaded rows chartOfValue
 value-chart-holds = refl
+
+pub hit-chart-holds : HitChartHolds
+unfolding _and_ _or_ every none next furtherOn shortOf entry noOlder readsInID readsInEX missesData readyIn ready budget movesWithin moves cycle allPre after fetchedBelow occupantBelow stateOf withHits storeAndLoad rows chartOfHits
+hit-chart-holds = refl
 
 pub value-waits : ValueWaits
 unfolding _and_ _or_ every none next furtherOn shortOf entry noOlder readsInID readsInEX missesData readyIn ready budget movesWithin moves cycle allPre after valueLoaded nothingLoaded

@@ -15,9 +15,10 @@ use Rattle.machine.specs.Time.{Settled, hit-stays, miss-stays, unknown-h
 use Rattle.machine.specs.Order.{FlagTo, hit-hit, miss-miss, SlowerInstruction, Slower, slower-none, slower-more, SameFlags, same-none, same-more, added}
 use Rattle.machine.specs.Bus.{countsFetch, countsData, accessesOf, accesses, busTime}
 use Rattle.machine.specs.Claims.{DelayedNoLater}
+use Rattle.machine.proofs.Hits.{hits-settle, hits-delayed}
 use Rattle.machine.proofs.Slower.{ordered}
 use Rattle.machine.proofs.Longer.{added-at-most}
-use Rattle.machine.proofs.Settlings.{flag-below-misses}
+use Rattle.machine.proofs.Settlings.{flag-below-misses, settles}
 
 pub delayed-length : {wait : ℕ} {trace version : Trace} → Delayed wait trace version → length version ≡ length trace
 delayed-length delayed-none = refl
@@ -123,7 +124,9 @@ module _ (wait : ℕ) where
 
 pub delayed-no-later : DelayedNoLater
 unfolding busTime worst
-delayed-no-later trace settling version wait h d =
-    let later = ordered version (allAtWorst wait (settle miss trace)) (all-below-worst wait h d) .1 in
-    let sum = added-at-most (settle miss trace) (allAtWorst wait (settle miss trace)) (worst-longer wait trace) (worst-same wait (settle miss trace)) in
+delayed-no-later h trace settling version wait takes s d =
+    let missed = hits-settle (settles miss unknown-misses trace) takes in
+    let delayed = hits-delayed (worst-delayed wait (settle miss trace)) missed in
+    let later = ordered h version (allAtWorst wait (settle miss trace)) (hits-delayed d (hits-settle s takes)) delayed (all-below-worst wait s d) .1 in
+    let sum = added-at-most h (settle miss trace) (allAtWorst wait (settle miss trace)) missed delayed (worst-longer wait trace) (worst-same wait (settle miss trace)) in
     omega (arith, later, sum, added-counted wait trace)

@@ -3,7 +3,6 @@ use Prim.Native.Nat.{ℕ, _+_, _-_, _≤_}
 use mathlib.Core.Bool.{Bool, true, false, cond}
 use mathlib.Core.Path.{_≡_, refl}
 use native.Mathlib.Omega.{arith}
-use Rattle.machine.specs.Test.{_and_}
 use Rattle.machine.specs.Instruction.{Instruction, Trace, instruction}
 use Rattle.machine.specs.Rules.{Stage, rank, isLoad, isStore, misses, entry}
 use Rattle.machine.proofs.Numbers.{sum}
@@ -55,7 +54,7 @@ abbrev pub countAt : Instruction → ℕ → ℕ
 countAt i s = entry i (stageAlong (isStore (i .kind)) s)
 
 -- at level 5 only a store has one
-pub last-count : (i : Instruction) (lane : Bool) → entry i (stageAlong lane 5) ≡ cond lane (cond (misses (i .access)) (i .dataLatency - 1) 0) 0
+pub last-count : (i : Instruction) (lane : Bool) → entry i (stageAlong lane 5) ≡ cond lane (cond (misses (i .access)) (i .dataLatency - 1) (i .hitCycles)) 0
 unfolding entry
 last-count i true = refl
 last-count i false = refl
@@ -64,14 +63,14 @@ last-count i false = refl
 abbrev pub fetchCount : Bool → ℕ → ℕ
 fetchCount missed n = cond missed n 0
 
-abbrev pub dataCount : Bool → Bool → Bool → ℕ → ℕ
-dataCount loads stores missed n = cond (loads and missed) n 0 + cond stores (cond missed (n - 1) 0) 0
+abbrev pub dataCount : Bool → Bool → Bool → ℕ → ℕ → ℕ
+dataCount loads stores missed n hit = cond loads (cond missed n hit) 0 + cond stores (cond missed (n - 1) hit) 0
 
 pub counts-are : (i : Instruction) →
     sum (countAt i) 6
     ≡ fetchCount (misses (i .fetch)) (i .fetchLatency)
     + i .executionLatency
-    + dataCount (isLoad (i .kind)) (isStore (i .kind)) (misses (i .access)) (i .dataLatency)
+    + dataCount (isLoad (i .kind)) (isStore (i .kind)) (misses (i .access)) (i .dataLatency) (i .hitCycles)
 unfolding sum entry
 counts-are i = let e = last-count i (isStore (i .kind)) in omega arith
 

@@ -34,7 +34,7 @@ last-leaves-by b n m h =
     omega arith
 
 -- the search finds the time at which the test passes and before which it fails
-least-from : (test : ℕ → Bool) (tries t goal : ℕ) →
+pub least-from : (test : ℕ → Bool) (tries t goal : ℕ) →
     ((u : ℕ) → u < goal → test u ≡ false) →
     test goal ≡ true →
     t ≤ goal →

@@ -19,12 +19,15 @@ pub mod Numbers
 pub mod Schedule
 pub mod Levels
 pub mod Standing
+pub mod Hits
+pub mod HitSlots
 pub mod Derivation
 pub mod Readiness
 pub mod Moves
 pub mod Bridge
 pub mod Bounds
 pub mod Finish
+pub mod Zero
 pub mod Monotone
 pub mod Slower
 pub mod Longer

@@ -6,10 +6,11 @@ use mathlib.Core.List.{_∷_}
 use mathlib.Core.Path.{_≡_, refl, sym, subst, _∙_}
 use native.Mathlib.Omega.{arith}
 use lib.ListN.{length}
-use Rattle.machine.specs.Test.{_and_}
+use Rattle.machine.specs.Test.{_or_}
 use Rattle.machine.specs.Instruction.{Instruction, Trace, instruction}
 use Rattle.machine.specs.Rules.{Stage, pre, IF, ID, EX, MEM, ST, WB, post, misses, readsInID, readsInEX, missesData}
 use Rattle.machine.specs.Order.{SlowerInstruction, Slower, slower-none, slower-more, SameFlags, same-none, same-more, added}
+use Rattle.machine.specs.Hits.{HitTakes, HitsTake}
 use Rattle.machine.specs.Claims.{AddedAtMost}
 use Rattle.machine.proofs.Numbers.{by-age, greatest-le, sum, sum-grows, sum-first}
 use Rattle.machine.proofs.Levels.{stageAlong}
@@ -19,7 +20,7 @@ use Rattle.machine.proofs.Hazards.{waitsFor}
 use Rattle.machine.proofs.Derivation.{waits, countAt, fetchCount, dataCount, counts-are, behaviour}
 use Rattle.machine.proofs.Finish.{lastLeaves, leaves-by, finish-is}
 use Rattle.machine.proofs.Monotone.{shares-alike}
-use Rattle.machine.proofs.Slower.{slower-at, slower-length, slower-behaviour}
+use Rattle.machine.proofs.Slower.{hit-alike, slower-at, slower-length, slower-behaviour}
 
 -- all entry counts of an instruction, and all those before level s of instruction i in the order of the trace
 counts : Behaviour → ℕ → ℕ
@@ -102,22 +103,24 @@ added-fetch : (x : Bool) (m n : ℕ) → m ≤ n → fetchCount x n ≤ fetchCou
 added-fetch true m n l = omega arith
 added-fetch false m n l = omega arith
 
-added-data : {h l s : Bool} → Does h l s → (x : Bool) (m n : ℕ) → m ≤ n → dataCount l s x n ≤ dataCount l s x m + (n - m)
-unfolding _and_
-added-data holding x m n l = omega arith
-added-data loading true m n l = omega arith
-added-data loading false m n l = omega arith
-added-data storing true m n l = omega arith
-added-data storing false m n l = omega arith
-added-data nothing x m n l = omega arith
+added-data : {h l s : Bool} → Does h l s → (x : Bool) (m n a b : ℕ) → m ≤ n → ((l or s) ≡ true → a ≡ b) → dataCount l s x n b ≤ dataCount l s x m a + (n - m)
+unfolding _or_
+added-data holding x m n a b l e = omega arith
+added-data loading true m n a b l e = omega arith
+added-data loading false m n a b l e = let p = e refl in omega arith
+added-data storing true m n a b l e = omega arith
+added-data storing false m n a b l e = let p = e refl in omega arith
+added-data nothing x m n a b l e = omega arith
 
-added-counts : (i j : Instruction) → SlowerInstruction i j → j .fetch ≡ i .fetch → j .access ≡ i .access →
+added-counts : {h : ℕ} (i j : Instruction) → HitTakes h i → HitTakes h j → SlowerInstruction i j → j .fetch ≡ i .fetch → j .access ≡ i .access →
     sum (countAt j) 6 ≤ sum (countAt i) 6
     + ((j .executionLatency - i .executionLatency) + (j .fetchLatency - i .fetchLatency) + (j .dataLatency - i .dataLatency))
-added-counts i j h f g =
+added-counts i j a b h f g =
     rw (counts-are i, counts-are j, f, g, h .kind)
     (let p = added-fetch (misses (i .fetch)) (i .fetchLatency) (j .fetchLatency) (h .fetchLatency) in
-    let q = added-data (does (i .kind)) (misses (i .access)) (i .dataLatency) (j .dataLatency) (h .dataLatency) in
+    let q =
+    added-data (does (i .kind)) (misses (i .access)) (i .dataLatency) (j .dataLatency) (i .hitCycles) (j .hitCycles) (h .dataLatency)
+    (λ e. hit-alike i j a b (h .kind) e .0) in
     omega arith)
 
 traceCounts : Trace → ℕ
@@ -127,12 +130,12 @@ first-counts : (i : Instruction) (trace : Trace) → traceCounts (i ∷ trace) �
 unfolding traceCounts
 first-counts i trace = sum-first (λ k. sum (countAt (instruction (i ∷ trace) k)) 6) (length trace)
 
-added-at-most-counts : {first second : Trace} → Slower first second → SameFlags first second → traceCounts second ≤ traceCounts first + added first second
+added-at-most-counts : {h : ℕ} {first second : Trace} → HitsTake h first → HitsTake h second → Slower first second → SameFlags first second → traceCounts second ≤ traceCounts first + added first second
 unfolding added
-added-at-most-counts slower-none same-none = omega arith
-added-at-most-counts (slower-more {a} {b} {first} {second} h hs) (same-more f g s) =
-    let p = added-counts a b h f g in
-    let q = added-at-most-counts hs s in
+added-at-most-counts m n slower-none same-none = omega arith
+added-at-most-counts m n (slower-more {a} {b} {first} {second} h hs) (same-more f g s) =
+    let p = added-counts a b (m 0 (omega arith)) (n 0 (omega arith)) h f g in
+    let q = added-at-most-counts (λ k l. m (suc k) (omega arith)) (λ k l. n (suc k) (omega arith)) hs s in
     rw (first-counts a first, first-counts b second) (omega arith)
 
 -- with equal flags, equal waits
@@ -163,20 +166,20 @@ access-at same-none i = refl
 access-at (same-more f g s) zero = g
 access-at (same-more f g s) (suc i) = access-at s i
 
-longer-behaviour : {first second : Trace} → Slower first second → SameFlags first second → LongerBehaviour (behaviour first) (behaviour second)
+longer-behaviour : {h : ℕ} {first second : Trace} → HitsTake h first → HitsTake h second → Slower first second → SameFlags first second → LongerBehaviour (behaviour first) (behaviour second)
 unfolding behaviour
-longer-behaviour {first} {second} h same =
+longer-behaviour {h} {first} {second} a b slow same =
     record {
-      count = slower-behaviour h .count;
-      lane = slower-behaviour h .lane;
-      until = λ i s j. waits-alike s _ _ _ _ (slower-at h i) (slower-at h j) (fetch-at same i) (access-at same i);
+      count = slower-behaviour first second a b slow .count;
+      lane = slower-behaviour first second a b slow .lane;
+      until = λ i s j. waits-alike s _ _ _ _ (slower-at slow i) (slower-at slow j) (fetch-at same i) (access-at same i);
     }
 
 pub added-at-most : AddedAtMost
 unfolding traceCounts counts behaviour
-added-at-most first second h same =
-    rw (finish-is first, finish-is second, slower-length h)
-    (let p = last-near (behaviour first) (behaviour second) (longer-behaviour h same) (length first) in
+added-at-most h first second a b slow same =
+    rw (finish-is first, finish-is second, slower-length slow)
+    (let p = last-near (behaviour first) (behaviour second) (longer-behaviour a b slow same) (length first) in
     let q : sum (counts (behaviour second)) (length first) ≤ sum (counts (behaviour first)) (length first) + added first second =
-    subst (λ (n : ℕ). sum (counts (behaviour second)) n ≤ sum (counts (behaviour first)) (length first) + added first second) (slower-length h) (added-at-most-counts h same) in
+    subst (λ (n : ℕ). sum (counts (behaviour second)) n ≤ sum (counts (behaviour first)) (length first) + added first second) (slower-length slow) (added-at-most-counts a b slow same) in
     omega arith)

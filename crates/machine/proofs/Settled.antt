@@ -43,6 +43,7 @@ known-stays h k =
       executionLatency = h .executionLatency t;
       fetchLatency = h .fetchLatency t;
       dataLatency = h .dataLatency t;
+      hitCycles = h .hitCycles t;
     }
 
 pub settling-length : {trace settling : Trace} → Settling trace settling → length settling ≡ length trace

@@ -7,6 +7,7 @@ use Rattle.machine.specs.Instruction.{Flag, hit, miss, unknown, Trace}
 use Rattle.machine.specs.Time.{Settled, hit-stays, miss-stays, unknown-hits, unknown-misses, Settling, settled-none, settled-more, settleFlag, settle, best, worst}
 use Rattle.machine.specs.Order.{FlagTo, hit-hit, hit-miss, miss-miss, Slower, slower-none, slower-more}
 use Rattle.machine.specs.Claims.{SettlingsEnclosed}
+use Rattle.machine.proofs.Hits.{hits-settle}
 use Rattle.machine.proofs.Slower.{ordered}
 
 flag-settled : (to : Flag) → Settled unknown to → (flag : Flag) → Settled flag (settleFlag to flag)
@@ -44,6 +45,7 @@ settles to u (i ∷ trace) =
       executionLatency = refl;
       fetchLatency = refl;
       dataLatency = refl;
+      hitCycles = refl;
     })
     (settles to u trace)
 
@@ -85,10 +87,10 @@ misses-slower (settled-more h rest) =
 
 pub settlings-enclosed : SettlingsEnclosed
 unfolding best worst
-settlings-enclosed trace = (
+settlings-enclosed h trace takes = (
   λ settling s. (
-    ordered (settle hit trace) settling (slower-than-hits s) .1,
-    ordered settling (settle miss trace) (misses-slower s) .1,
+    ordered h (settle hit trace) settling (hits-settle (settles hit unknown-hits trace) takes) (hits-settle s takes) (slower-than-hits s) .1,
+    ordered h settling (settle miss trace) (hits-settle s takes) (hits-settle (settles miss unknown-misses trace) takes) (misses-slower s) .1,
   ),
   settles hit unknown-hits trace,
   settles miss unknown-misses trace,

@@ -7,12 +7,15 @@ use Rattle.machine.specs.Test.{_and_}
 use Rattle.machine.specs.Instruction.{Kind, plain, load, store, branch, Flag, hit, miss, unknown, Instruction, Trace}
 use Rattle.machine.specs.Rules.{after}
 use Rattle.machine.specs.Time.{best, worst}
+use Rattle.machine.specs.Hits.{withHits}
 use Rattle.machine.specs.State.{emptySlot, stateOf}
 use Rattle.machine.specs.declared.Slot.{Slot}
 use Rattle.machine.specs.declared.State.{State}
 
+-- a trace, the cycles that its data hits take, and its times
 pub record Case : Type 0 where
   pub trace : Trace
+  pub hits : ℕ
   pub best : ℕ
   pub worst : ℕ
 
@@ -29,6 +32,7 @@ simple kind access latency =
       executionLatency = 0;
       fetchLatency = 1;
       dataLatency = latency;
+      hitCycles = 0;
     }
 
 plainOne : Instruction
@@ -48,6 +52,7 @@ fetched fetch latency i =
       executionLatency = i .executionLatency;
       fetchLatency = latency;
       dataLatency = i .dataLatency;
+      hitCycles = i .hitCycles;
     }
 
 executed : ℕ → Instruction → Instruction
@@ -62,6 +67,7 @@ executed latency i =
       executionLatency = latency;
       fetchLatency = i .fetchLatency;
       dataLatency = i .dataLatency;
+      hitCycles = i .hitCycles;
     }
 
 registers : ℕ → ℕ → ℕ → Instruction → Instruction
@@ -76,11 +82,16 @@ registers source1 source2 target i =
       executionLatency = i .executionLatency;
       fetchLatency = i .fetchLatency;
       dataLatency = i .dataLatency;
+      hitCycles = i .hitCycles;
     }
 
--- a trace without unknown flags has one finishing time
+-- a trace without unknown flags has one finishing time; but for document 02, F-4, a data hit takes no cycles
+hittingCase : Trace → ℕ → ℕ → Case
+hittingCase trace hits time = record { trace = trace; hits = hits; best = time; worst = time }
+
 settledCase : Trace → ℕ → Case
-settledCase trace time = record { trace = trace; best = time; worst = time }
+unfolding hittingCase
+settledCase trace time = hittingCase trace 0 time
 
 unfoldable pub caseC : Trace
 unfolding simple
@@ -116,7 +127,7 @@ cases =
     ∷ settledCase caseI 15
     ∷ settledCase (simple store miss 10 ∷ simple store miss 10 ∷ []) 26
     ∷ settledCase (simple store miss 10 ∷ simple store hit 1 ∷ []) 16
-    ∷ record { trace = caseL; best = 7; worst = 21 }
+    ∷ record { trace = caseL; hits = 0; best = 7; worst = 21 }
     ∷ []
 
 -- What A to L do not show: a dependence through the second source, and none through register 0; behind an older store a fetch that misses, a fetch
@@ -159,9 +170,52 @@ lateValues =
     ∷ settledCase (nothingLoaded 10) 17
     ∷ []
 
+-- Document 02, F-4: a load hit and a plain one that needs it, two store hits, a store hit and a load hit, each of latency 20
+unfoldable pub loadedAndUsed : Trace
+unfolding simple plainOne registers
+loadedAndUsed = registers 0 0 1 (simple load hit 20) ∷ registers 1 0 2 plainOne ∷ []
+
+unfoldable pub twoStores : Trace
+unfolding simple
+twoStores = simple store hit 20 ∷ simple store hit 20 ∷ []
+
+unfoldable pub storeAndLoad : Trace
+unfolding simple
+storeAndLoad = simple store hit 20 ∷ simple load hit 20 ∷ []
+
+-- a load that misses and a store hit behind it, each of the shortest latency that 17 leaves for every h
+unfoldable pub missAndHit : Trace
+unfolding simple
+missAndHit = simple load miss 16 ∷ simple store hit 16 ∷ []
+
+-- The first three for h = 0, 3 and 15. A miss takes no longer for it. An unknown load, and an unknown store, as a hit and as a miss.
+unfoldable pub hitCases : List Case
+unfolding simple hittingCase loadedAndUsed twoStores storeAndLoad missAndHit
+hitCases =
+    hittingCase loadedAndUsed 0 8
+    ∷ hittingCase loadedAndUsed 3 11
+    ∷ hittingCase loadedAndUsed 15 23
+    ∷ hittingCase twoStores 0 7
+    ∷ hittingCase twoStores 3 13
+    ∷ hittingCase twoStores 15 37
+    ∷ hittingCase storeAndLoad 0 7
+    ∷ hittingCase storeAndLoad 3 10
+    ∷ hittingCase storeAndLoad 15 22
+    ∷ hittingCase missAndHit 0 23
+    ∷ hittingCase missAndHit 15 38
+    ∷ hittingCase (simple load miss 16 ∷ []) 15 22
+    ∷ hittingCase (simple store miss 16 ∷ []) 15 21
+    ∷ record { trace = simple load unknown 16 ∷ []; hits = 15; best = 21; worst = 22 }
+    ∷ record { trace = simple store unknown 16 ∷ []; hits = 15; best = 21; worst = 21 }
+    ∷ []
+
+-- the trace of a case, its data hits as long as it says
+abbrev pub timed : Case → Trace
+timed c = withHits (c .hits) (c .trace)
+
 unfoldable pub casesHold : List Case → Bool
 casesHold [] = true
-casesHold (c ∷ cs) = eqb (best (c .trace)) (c .best) and eqb (worst (c .trace)) (c .worst) and casesHold cs
+casesHold (c ∷ cs) = eqb (best (timed c)) (c .best) and eqb (worst (timed c)) (c .worst) and casesHold cs
 
 -- the rows of a chart: the states after 0, 1, .. n - 1 cycles
 unfoldable pub rows : Trace → ℕ → List State
@@ -207,5 +261,21 @@ chartOfValue =
     ∷ row 2 dash dash (at 1 0) (at 0 0) dash dash
     ∷ row 2 dash dash dash (at 1 0) dash (at 0 0)
     ∷ row 2 dash dash dash dash (at 1 0) dash
+    ∷ row 2 dash dash dash dash dash dash
+    ∷ []
+
+-- F-4's store hit and load hit with h = 2. Both have their count at the same time, the store in ST and the load in MEM.
+unfoldable pub chartOfHits : List State
+unfolding at dash row
+chartOfHits =
+    row 0 dash dash dash dash dash dash
+    ∷ row 1 (at 0 0) dash dash dash dash dash
+    ∷ row 2 (at 1 0) (at 0 0) dash dash dash dash
+    ∷ row 2 dash (at 1 0) (at 0 0) dash dash dash
+    ∷ row 2 dash dash (at 1 0) (at 0 0) dash dash
+    ∷ row 2 dash dash dash (at 1 2) (at 0 2) dash
+    ∷ row 2 dash dash dash (at 1 1) (at 0 1) dash
+    ∷ row 2 dash dash dash (at 1 0) (at 0 0) dash
+    ∷ row 2 dash dash dash dash dash (at 1 0)
     ∷ row 2 dash dash dash dash dash dash
     ∷ []

@@ -9,11 +9,13 @@ use lib.Dec.{T, eqb}
 use lib.ListN.{length}
 use Rattle.machine.specs.Test.{_and_, _or_, every}
 use Rattle.machine.specs.Instruction.{hit, miss, Trace, instruction}
-use Rattle.machine.specs.Rules.{Stage, EX, MEM, post, next, same, Places, further, accessReady, valueReady, ready, moves, willBeFree, cycle, after, allLeft}
+use Rattle.machine.specs.Rules.{Stage, EX, MEM, post, next, same, Places, further, entry, accessReady, valueReady, ready, moves, willBeFree, cycle, after, allLeft}
 use Rattle.machine.specs.Time.{bound, finish, Settling, Delayed, Known, settle, best, worst}
+use Rattle.machine.specs.Hits.{withHits, HitsTake}
+use Rattle.machine.specs.Before.{entryBefore, afterBefore, finishBefore}
 use Rattle.machine.specs.Order.{Slower, SameFlags, added}
 use Rattle.machine.specs.Bus.{busTime, Access, UnderWay}
-use Rattle.machine.specs.Cases.{cases, further as furtherCases, valueLoaded, nothingLoaded, lateValues, casesHold, caseD, rows, chartOfD, chartOfValue}
+use Rattle.machine.specs.Cases.{cases, further as furtherCases, valueLoaded, nothingLoaded, lateValues, storeAndLoad, hitCases, casesHold, caseD, rows, chartOfD, chartOfValue, chartOfHits}
 use Rattle.machine.specs.State.{start, placeOf, stateOf, Orderly, orderly}
 use Rattle.machine.specs.declared.State.{State}
 
@@ -29,12 +31,19 @@ FurtherHold = T (casesHold furtherCases)
 abbrev pub LateValuesHold : Type 0
 LateValuesHold = T (casesHold lateValues)
 
--- D's chart, row by row, and that of F-3's example with a latency of 2
+-- and what document 02, F-4, amends
+abbrev pub HitCasesHold : Type 0
+HitCasesHold = T (casesHold hitCases)
+
+-- D's chart, row by row, that of F-3's example with a latency of 2, and that of F-4's store hit and load hit with h = 2
 abbrev pub ChartHolds : Type 0
 ChartHolds = rows caseD 9 ≡ chartOfD
 
 abbrev pub ValueChartHolds : Type 0
 ValueChartHolds = rows (valueLoaded 2) 10 ≡ chartOfValue
+
+abbrev pub HitChartHolds : Type 0
+HitChartHolds = rows (withHits 2 storeAndLoad) 10 ≡ chartOfHits
 
 -- `moves`, a test of instructions, and `willBeFree`, a test of stages, satisfy document 01's two sentences as equations: each is given by the other,
 -- and no budget is named.
@@ -87,27 +96,36 @@ FinishIsLeast =
     (trace : Trace) →
     (allLeft trace (after trace (finish trace)) ≡ true) × ((t : ℕ) → t < finish trace → allLeft trace (after trace t) ≡ false)
 
--- "It is at most the sum over all instructions of 6 plus the three latencies"
+-- "It is at most the sum over all instructions of 6 plus the three latencies", "with h in place of the data latency on hits"
 abbrev pub FinishBounded : Type 0
 FinishBounded = (trace : Trace) → finish trace ≤ bound trace
 
 -- demand 3: "after every number of cycles from the start, no instruction is further on in the second than in the first, so the second never
--- finishes earlier."
+-- finishes earlier." Document 02, F-4: "meant for one h throughout and for traces that 17 does not decline with it".
 abbrev pub Ordered : Type 0
 Ordered =
-    (first second : Trace) →
+    (h : ℕ) (first second : Trace) →
+    HitsTake h first →
+    HitsTake h second →
     Slower first second →
     ((t i : ℕ) → i < length first → further (after second t i) (after first t i) ≡ false) × (finish first ≤ finish second)
 
 -- demand 3: "Where only latencies differ, it finishes later by at most the sum of what was added."
 abbrev pub AddedAtMost : Type 0
-AddedAtMost = (first second : Trace) → Slower first second → SameFlags first second → finish second ≤ finish first + added first second
+AddedAtMost =
+    (h : ℕ) (first second : Trace) →
+    HitsTake h first →
+    HitsTake h second →
+    Slower first second →
+    SameFlags first second →
+    finish second ≤ finish first + added first second
 
 -- demand 3: "no settling of them finishes later than the worst time given or earlier than the best time given, and each of these two is the
 -- finishing time of some settling."
 abbrev pub SettlingsEnclosed : Type 0
 SettlingsEnclosed =
-    (trace : Trace) →
+    (h : ℕ) (trace : Trace) →
+    HitsTake h trace →
     ((settling : Trace) → Settling trace settling → (best trace ≤ finish settling) × (finish settling ≤ worst trace))
     × Settling trace (settle hit trace)
     × Settling trace (settle miss trace)
@@ -120,10 +138,21 @@ OnlySettling =
     ((k : ℕ) → k < length trace → Known (instruction trace k)) →
     settling ≡ trace
 
+-- document 02, F-4: "With h = 0 every chart is as before". Where data hits take no cycles the counts on entry are document 01's, by which states are
+-- judged, and so are the places after every number of cycles and the finishing time.
+pub record AsBefore (trace : Trace) : Type 0 where
+  pub counts : (i : ℕ) (s : Stage) → entry (instruction trace i) s ≡ entryBefore (instruction trace i) s
+  pub places : (t i : ℕ) → after trace t i ≡ afterBefore trace t i
+  pub time : finish trace ≡ finishBefore trace
+
+abbrev pub ZeroIsBefore : Type 0
+ZeroIsBefore = (trace : Trace) → AsBefore (withHits 0 trace)
+
 -- document 02, F-1: "It must hold for every settling of the flags and every added wait from 0 to d on each missed access."
 abbrev pub DelayedNoLater : Type 0
 DelayedNoLater =
-    (trace settling version : Trace) (longest : ℕ) →
+    (h : ℕ) (trace settling version : Trace) (longest : ℕ) →
+    HitsTake h trace →
     Settling trace settling →
     Delayed longest settling version →
     finish version ≤ busTime trace longest

@@ -11,7 +11,8 @@ pub data Kind : Type 0 where
 pub data Flag : Type 0 where
   hit miss unknown : Flag
 
--- The fetch and the data access each have a flag and a latency; the latency is given where the access hits, too.
+-- The fetch and the data access each have a flag and a latency; the latency is given where the access hits, too. The last is no field of a record:
+-- the cycles that a data hit takes, which the calls are given (`withHits`).
 pub record Instruction : Type 0 where
   pub kind : Kind
   pub fetch : Flag
@@ -22,6 +23,7 @@ pub record Instruction : Type 0 where
   pub executionLatency : ℕ
   pub fetchLatency : ℕ
   pub dataLatency : ℕ
+  pub hitCycles : ℕ
 
 abbrev pub Trace : Type 0
 Trace = List Instruction
@@ -39,6 +41,7 @@ blank =
       executionLatency = 0;
       fetchLatency = 0;
       dataLatency = 0;
+      hitCycles = 0;
     }
 
 -- instruction i of a trace

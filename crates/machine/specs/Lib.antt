@@ -2,6 +2,8 @@ pub mod Test
 pub mod Instruction
 pub mod Rules
 pub mod Time
+pub mod Hits
+pub mod Before
 pub mod Order
 pub mod Bus
 pub mod Cases

@@ -82,6 +82,10 @@ isStore load = false
 isStore store = true
 isStore branch = false
 
+-- "a load or store": the kinds with a data access
+abbrev pub hasAccess : Kind → Bool
+hasAccess kind = isLoad kind or isStore kind
+
 abbrev pub holdsFetches : Kind → Bool
 holdsFetches plain = false
 holdsFetches load = false
@@ -99,14 +103,15 @@ misses miss = true
 misses unknown = false
 
 -- "Count on entry: IF, the fetch latency on a miss, else 0. EX, the execution latency. MEM, a load's data latency on a miss, else 0. ST, the
--- data latency less 1 on a miss, else 0. All others 0."
+-- data latency less 1 on a miss, else 0. All others 0." Document 02, F-4: "The count on entry to MEM for a load hit, and to ST for a store hit,
+-- becomes h".
 unfoldable pub entry : Instruction → Stage → ℕ
 entry i pre = 0
 entry i IF = cond (misses (i .fetch)) (i .fetchLatency) 0
 entry i ID = 0
 entry i EX = i .executionLatency
-entry i MEM = cond (isLoad (i .kind) and misses (i .access)) (i .dataLatency) 0
-entry i ST = cond (misses (i .access)) (i .dataLatency - 1) 0
+entry i MEM = cond (isLoad (i .kind)) (cond (misses (i .access)) (i .dataLatency) (i .hitCycles)) 0
+entry i ST = cond (misses (i .access)) (i .dataLatency - 1) (i .hitCycles)
 entry i WB = 0
 entry i post = 0
 

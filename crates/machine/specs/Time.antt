@@ -4,13 +4,18 @@ use mathlib.Core.Bool.{Bool, true, false, cond}
 use mathlib.Core.List.{[], _∷_}
 use mathlib.Core.Path.{_≡_}
 use Rattle.machine.specs.Instruction.{Flag, hit, miss, unknown, Instruction, Trace}
-use Rattle.machine.specs.Rules.{misses, missesData, after, allLeft}
+use Rattle.machine.specs.Rules.{hasAccess, misses, missesData, after, allLeft}
 use Rattle.machine.specs.State.{maxInstructions}
 
--- "the sum over all instructions of 6 plus the three latencies"
+-- what a data access adds: its latency on a miss, and the cycles of a hit else; a kind without an access adds nothing
+abbrev pub dataCycles : Instruction → ℕ
+dataCycles i = cond (hasAccess (i .kind)) (cond (misses (i .access)) (i .dataLatency) (i .hitCycles)) 0
+
+-- "the sum over all instructions of 6 plus the three latencies"; document 02, F-4: "Finishing times are now bounded by the sum with h in place of the
+-- data latency on hits."
 unfoldable pub bound : Trace → ℕ
 bound [] = 0
-bound (i ∷ trace) = (6 + i .executionLatency + i .fetchLatency + i .dataLatency) + bound trace
+bound (i ∷ trace) = (6 + i .executionLatency + i .fetchLatency + dataCycles i) + bound trace
 
 -- the longest fetch or data latency: "1 to 65,535"
 abbrev pub maxLatency : ℕ
@@ -50,6 +55,7 @@ pub record SettledInstruction (i s : Instruction) : Type 0 where
   pub executionLatency : s .executionLatency ≡ i .executionLatency
   pub fetchLatency : s .fetchLatency ≡ i .fetchLatency
   pub dataLatency : s .dataLatency ≡ i .dataLatency
+  pub hitCycles : s .hitCycles ≡ i .hitCycles
 
 pub data Settling : Trace → Trace → Type 0 where
   settled-none : Settling [] []
@@ -68,6 +74,7 @@ withWaits onFetch onData i =
       executionLatency = i .executionLatency;
       fetchLatency = i .fetchLatency + cond (misses (i .fetch)) onFetch 0;
       dataLatency = i .dataLatency + cond (missesData i) onData 0;
+      hitCycles = i .hitCycles;
     }
 
 -- document 02, F-1: "every added wait from 0 to d on each missed access": delayed by at most d, the longest wait, each missed access by a wait of
@@ -107,6 +114,7 @@ settleInstruction to i =
       executionLatency = i .executionLatency;
       fetchLatency = i .fetchLatency;
       dataLatency = i .dataLatency;
+      hitCycles = i .hitCycles;
     }
 
 unfoldable pub settle : Flag → Trace → Trace

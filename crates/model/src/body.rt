@@ -1,5 +1,6 @@
-// The rules of an instruction record, and the refusals 10, 8 and 11 of a body.
+// The rules of an instruction record, and the refusals 10, 8, 17 and 11 of a body.
 use super::trace::BRANCH;
+use super::trace::Instruction;
 use super::trace::LOAD;
 use super::trace::MOST;
 use super::trace::RECORD;
@@ -9,12 +10,18 @@ use super::trace::UNKNOWN;
 use super::trace::byte;
 use super::trace::data_flag;
 use super::trace::fetch_flag;
+use super::trace::instruction_at;
 use super::trace::pair;
+use super::trace::size;
 ghost use Prim.Native.Nat.{_+_, _≤_};
 ghost use lib.ListN.{length};
 
+// "Newer cores spend h more cycles, 0 to 15, on a data hit" (document 02, F-4). The code calls h
+// `hit_cycles`.
+pub const MOST_HIT_CYCLES: u32 = 15;
+
 // A load or a store.
-fn has_data(kind: u8) -> bool {
+pub fn has_data(kind: u8) -> bool {
     kind == LOAD || kind == STORE
 }
 
@@ -100,6 +107,23 @@ fn some_unknown(body: &[u8]) -> bool {
     false
 }
 
+// "A load or store whose data latency is not above h" (document 02, F-4), whatever its flag.
+fn too_short(x: Instruction, hit_cycles: u32) -> bool {
+    has_data(x.kind) && x.data_latency <= hit_cycles
+}
+
+fn some_too_short(body: &[u8], hit_cycles: u32) -> bool {
+    let n = size(body);
+    let mut i = 0;
+    while i < n {
+        if too_short(instruction_at(body, i), hit_cycles) {
+            return true;
+        }
+        i += 1;
+    }
+    false
+}
+
 // "10 length not ten times a number up to 4,096, then 8"; 0 where the body is accepted.
 pub fn body_refusal(body: &[u8]) -> u32 {
     if body.len() % RECORD != 0 {
@@ -111,9 +135,31 @@ pub fn body_refusal(body: &[u8]) -> u32 {
     if some_breaks(body, 0) { 8 } else { 0 }
 }
 
-// The same, then "11 an unknown flag".
-pub fn settled_refusal(body: &[u8]) -> u32 {
+// 17 or 0: "h above 15, or a load or store whose data latency is not above h" (document 02, F-4). The
+// first declines an empty body too.
+pub fn hit_refusal(body: &[u8], hit_cycles: u32) -> u32 {
+    if hit_cycles > MOST_HIT_CYCLES {
+        return 17;
+    }
+    if some_too_short(body, hit_cycles) {
+        17
+    } else {
+        0
+    }
+}
+
+// 10, 8, and "17, after 8": what each timing call declines, whatever the flags are.
+pub fn timed_refusal(body: &[u8], hit_cycles: u32) -> u32 {
     let refusal = body_refusal(body);
+    if refusal != 0 {
+        return refusal;
+    }
+    hit_refusal(body, hit_cycles)
+}
+
+// The same, then "11 an unknown flag".
+pub fn settled_refusal(body: &[u8], hit_cycles: u32) -> u32 {
+    let refusal = timed_refusal(body, hit_cycles);
     if refusal != 0 {
         return refusal;
     }

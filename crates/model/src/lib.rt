@@ -10,8 +10,11 @@ mod sets;
 mod settlings;
 mod trace;
 
+pub use body::MOST_HIT_CYCLES;
 pub use body::body_refusal;
+pub use body::hit_refusal;
 pub use body::settled_refusal;
+pub use body::timed_refusal;
 pub use job::Opened;
 pub use job::open;
 pub use job::open_refusal;

@@ -105,8 +105,8 @@ fn all_free(s: Standing) -> u32 {
     free
 }
 
-fn on_miss(flag: u8, latency: u32) -> u32 {
-    if flag == MISS { latency } else { 0 }
+fn by_flag(flag: u8, on_miss: u32, on_hit: u32) -> u32 {
+    if flag == MISS { on_miss } else { on_hit }
 }
 
 // One less, and 0 for 0.
@@ -116,18 +116,20 @@ fn less_one(count: u32) -> u32 {
 
 // "Count on entry: IF, the fetch latency on a miss, else 0. EX, the execution latency. MEM, a
 // load's data latency on a miss, else 0. ST, the data latency less 1 on a miss, else 0. All others 0."
-fn on_entry(x: Instruction, stage: u8) -> u32 {
+// But "the count on entry to MEM for a load hit, and to ST for a store hit, becomes h" (document 02,
+// F-4).
+fn on_entry(x: Instruction, stage: u8, hit_cycles: u32) -> u32 {
     if stage == IF {
-        return on_miss(x.fetch, x.fetch_latency);
+        return by_flag(x.fetch, x.fetch_latency, 0);
     }
     if stage == EX {
         return x.execution;
     }
     if stage == MEM && x.kind == LOAD {
-        return on_miss(x.data, x.data_latency);
+        return by_flag(x.data, x.data_latency, hit_cycles);
     }
     if stage == ST {
-        return less_one(on_miss(x.data, x.data_latency));
+        return by_flag(x.data, less_one(x.data_latency), hit_cycles);
     }
     0
 }
@@ -145,12 +147,12 @@ fn moves(kind: u8, at: Place, is_ready: bool, free: u32) -> bool {
 
 // Where x, which is not in post, stands one cycle on. If it does not move, "a count above 0 falls by
 // 1 and a count of 0 stays".
-fn advanced(x: Instruction, at: Place, is_ready: bool, free: u32) -> Place {
+fn advanced(x: Instruction, at: Place, is_ready: bool, free: u32, hit_cycles: u32) -> Place {
     if moves(x.kind, at, is_ready, free) {
         let to = next(x.kind, at.stage);
         return Place {
             stage: to,
-            count: on_entry(x, to),
+            count: on_entry(x, to, hit_cycles),
         };
     }
     Place {
@@ -168,6 +170,7 @@ fn move_one(
     i: usize,
     older: Older,
     free: u32,
+    hit_cycles: u32,
 ) -> Older
     requires { ⌜ i ≤ 4096 ⌝ }
 {
@@ -180,19 +183,19 @@ fn move_one(
         stages,
         counts,
         i,
-        advanced(x, at, ready(x, at.stage, older), free),
+        advanced(x, at, ready(x, at.stage, older), free, hit_cycles),
     );
     one_more(older, x, at)
 }
 
 // The places one cycle on, of a trace without unknown flags.
-pub fn cycle(body: &[u8], stages: &mut [u8], counts: &mut [u32]) {
+pub fn cycle(body: &[u8], stages: &mut [u8], counts: &mut [u32], hit_cycles: u32) {
     let free = all_free(all_standing(body, stages, counts));
     let n = size(body);
     let mut older = none();
     let mut i = 0;
     while i < n {
-        older = move_one(body, stages, counts, i, older, free);
+        older = move_one(body, stages, counts, i, older, free, hit_cycles);
         i += 1;
     }
 }

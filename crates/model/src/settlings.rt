@@ -146,17 +146,30 @@ pub struct Times {
 }
 
 // The finishing time of a settled body that stands at the start of `out`.
-fn settled_finish(out: &[u8], length: usize, stages: &mut [u8], counts: &mut [u32]) -> u32 {
+fn settled_finish(
+    out: &[u8],
+    length: usize,
+    stages: &mut [u8],
+    counts: &mut [u32],
+    hit_cycles: u32,
+) -> u32 {
     if length <= out.len() {
-        return finish_in(&out[..length], stages, counts);
+        return finish_in(&out[..length], stages, counts, hit_cycles);
     }
     4294967295
 }
 
 // The finishing time of one settling.
-fn time_of(body: &[u8], choice: u32, out: &mut [u8], stages: &mut [u8], counts: &mut [u32]) -> u32 {
+fn time_of(
+    body: &[u8],
+    choice: u32,
+    out: &mut [u8],
+    stages: &mut [u8],
+    counts: &mut [u32],
+    hit_cycles: u32,
+) -> u32 {
     settle(body, choice, out);
-    settled_finish(out, body.len(), stages, counts)
+    settled_finish(out, body.len(), stages, counts, hit_cycles)
 }
 
 fn least(a: u32, b: u32) -> u32 {
@@ -169,14 +182,20 @@ fn greatest(a: u32, b: u32) -> u32 {
 
 // Best and worst over all settlings, each of which is run: twice as many for each unknown flag more.
 // The lent arrays have room for the settled body and for its places.
-pub fn bounds_in(body: &[u8], out: &mut [u8], stages: &mut [u8], counts: &mut [u32]) -> Times {
+pub fn bounds_in(
+    body: &[u8],
+    out: &mut [u8],
+    stages: &mut [u8],
+    counts: &mut [u32],
+    hit_cycles: u32,
+) -> Times {
     let last = last_choice(body);
-    let mut best = time_of(body, 0, out, stages, counts);
+    let mut best = time_of(body, 0, out, stages, counts, hit_cycles);
     let mut worst = best;
     let mut choice: u32 = 0;
     while choice < last {
         choice += 1;
-        let time = time_of(body, choice, out, stages, counts);
+        let time = time_of(body, choice, out, stages, counts, hit_cycles);
         best = least(best, time);
         worst = greatest(worst, time);
     }
@@ -184,31 +203,31 @@ pub fn bounds_in(body: &[u8], out: &mut [u8], stages: &mut [u8], counts: &mut [u
 }
 
 // The same with arrays of its own.
-pub fn bounds(body: &[u8]) -> Times {
+pub fn bounds(body: &[u8], hit_cycles: u32) -> Times {
     let mut out = [0u8; 40960];
     let mut stages = [0u8; 4096];
     let mut counts = [0u32; 4096];
-    bounds_in(body, &mut out, &mut stages, &mut counts)
+    bounds_in(body, &mut out, &mut stages, &mut counts, hit_cycles)
 }
 
 // The finishing time with every unknown flag a hit, or every one a miss.
-pub fn finish_with_all(body: &[u8], flag: u8) -> u32
+pub fn finish_with_all(body: &[u8], flag: u8, hit_cycles: u32) -> u32
     requires { ⌜ flag < 4 ⌝ }
 {
     let mut out = [0u8; 40960];
     let mut stages = [0u8; 4096];
     let mut counts = [0u32; 4096];
     settle_all(body, flag, &mut out);
-    settled_finish(&out, body.len(), &mut stages, &mut counts)
+    settled_finish(&out, body.len(), &mut stages, &mut counts, hit_cycles)
 }
 
 // For a trace with more unknown flags than can be settled one by one: the time with every unknown flag
 // a hit, and with every one a miss. That no other settling is quicker or slower is the engine's claim,
 // and not counted out here.
-pub fn all_hits_all_misses(body: &[u8]) -> Times {
+pub fn all_hits_all_misses(body: &[u8], hit_cycles: u32) -> Times {
     Times {
-        best: finish_with_all(body, HIT),
-        worst: finish_with_all(body, MISS),
+        best: finish_with_all(body, HIT, hit_cycles),
+        worst: finish_with_all(body, MISS, hit_cycles),
     }
 }
 

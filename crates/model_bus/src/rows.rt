@@ -54,10 +54,10 @@ fn with_row(w: Watched, found: u32) -> Watched {
     }
 }
 
-// The rows from the start on until all have left, and no longer than document 01's bound; the lent arrays have
-// the places then. There are as many as the finishing time says.
-pub fn watch(body: &[u8], stages: &mut [u8], counts: &mut [u32]) -> Watched {
-    let bound = model::bound(body);
+// The rows from the start on until all have left, and no longer than the bound on finishing times; the lent arrays
+// have the places then. There are as many as the finishing time says.
+pub fn watch(body: &[u8], stages: &mut [u8], counts: &mut [u32], hit_cycles: u32) -> Watched {
+    let bound = model::bound(body, hit_cycles);
     model::start(body, stages, counts);
     let mut w = Watched {
         rows: 0,
@@ -70,7 +70,7 @@ pub fn watch(body: &[u8], stages: &mut [u8], counts: &mut [u32]) -> Watched {
             return w;
         }
         w = with_row(w, under_way(body, stages, counts));
-        model::cycle(body, stages, counts);
+        model::cycle(body, stages, counts, hit_cycles);
         cycle += 1;
     }
     w

@@ -71,9 +71,9 @@ fn some_too_long(body: &[u8], wait: u32) -> bool {
     false
 }
 
-// "Refuses 10, 8, then 15."
-pub fn bus_refusal(body: &[u8], wait: u32) -> u32 {
-    let refusal = model::body_refusal(body);
+// "Refuses 10, 8, then 15", with "17, after 8" (document 02, F-4).
+pub fn bus_refusal(body: &[u8], wait: u32, hit_cycles: u32) -> u32 {
+    let refusal = model::timed_refusal(body, hit_cycles);
     if refusal != 0 {
         return refusal;
     }
@@ -100,8 +100,9 @@ pub fn bus_time_in(
     out: &mut [u8],
     stages: &mut [u8],
     counts: &mut [u32],
+    hit_cycles: u32,
 ) -> BusTime {
-    let refusal = bus_refusal(body, wait);
+    let refusal = bus_refusal(body, wait, hit_cycles);
     if refusal != 0 {
         return BusTime {
             refusal,
@@ -109,7 +110,7 @@ pub fn bus_time_in(
             time: 0,
         };
     }
-    let times = model::bounds_in(body, out, stages, counts);
+    let times = model::bounds_in(body, out, stages, counts, hit_cycles);
     let n = accesses(body);
     BusTime {
         refusal: 0,
@@ -119,9 +120,9 @@ pub fn bus_time_in(
 }
 
 // The same with arrays of its own.
-pub fn bus_time(body: &[u8], wait: u32) -> BusTime {
+pub fn bus_time(body: &[u8], wait: u32, hit_cycles: u32) -> BusTime {
     let mut out = [0u8; 40960];
     let mut stages = [0u8; 4096];
     let mut counts = [0u32; 4096];
-    bus_time_in(body, wait, &mut out, &mut stages, &mut counts)
+    bus_time_in(body, wait, &mut out, &mut stages, &mut counts, hit_cycles)
 }

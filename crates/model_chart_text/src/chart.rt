@@ -10,6 +10,9 @@ use model::Times;
 
 const LAST_ROW: u32 = 1000;
 
+// "The chart program uses 0" for h (document 02, F-4).
+const HIT_CYCLES: u32 = 0;
+
 // Up to this many unknown flags every settling is run.
 const FEW: u32 = 8;
 
@@ -43,7 +46,7 @@ fn rows(body: &[u8], stages: &mut [u8], counts: &mut [u32]) {
         if model::all_left(body, stages) {
             return;
         }
-        model::cycle(body, stages, counts);
+        model::cycle(body, stages, counts, HIT_CYCLES);
         cycle += 1;
         row(cycle, body, stages, counts);
     }
@@ -68,9 +71,9 @@ fn rows_of_misses(body: &[u8]) {
 // Over all settlings where the unknown flags are few; otherwise with all of them hits, and all misses.
 fn times(body: &[u8]) -> Times {
     if model::unknowns(body) > FEW {
-        return model::all_hits_all_misses(body);
+        return model::all_hits_all_misses(body, HIT_CYCLES);
     }
-    model::bounds(body)
+    model::bounds(body, HIT_CYCLES)
 }
 
 fn of_body(body: &[u8]) {

@@ -25,15 +25,53 @@ pub fn traces_in(file: &[u8]) -> u32 {
     MOST_TRACES
 }
 
-// "1 to 8 as in Open, then 16: the list has fewer than T places" (document 02, F-2); 0 where nothing declines it.
-pub fn job_refusal(file: &[u8], places: usize) -> u32 {
+// Whether 17 declines the body that stands at `start` in the file.
+fn part_declined(file: &[u8], start: usize, length: usize, hit_cycles: u32) -> bool {
+    if start > file.len() {
+        return false;
+    }
+    if length > file.len() - start {
+        return false;
+    }
+    let end = start + length;
+    model::hit_refusal(&file[start..end], hit_cycles) != 0
+}
+
+// Whether 17 declines a trace that Open hands back.
+fn trace_declined(file: &[u8], trace: u32, hit_cycles: u32) -> bool {
+    let opened = model::open(file, trace);
+    if opened.refusal != 0 {
+        return false;
+    }
+    part_declined(file, opened.start, opened.length, hit_cycles)
+}
+
+// "17, after 8: h above 15, or a load or store whose data latency is not above h" (document 02, F-4), of any trace
+// of an accepted file. The first declines a file without traces too.
+fn hits_declined(file: &[u8], traces: u32, hit_cycles: u32) -> bool {
+    if hit_cycles > model::MOST_HIT_CYCLES {
+        return true;
+    }
+    let mut trace: u32 = 0;
+    while trace < traces {
+        if trace_declined(file, trace, hit_cycles) {
+            return true;
+        }
+        trace += 1;
+    }
+    false
+}
+
+// "1 to 8 as in Open, then 16: the list has fewer than T places" (document 02, F-2), with 17 after 8; 0 where nothing
+// declines it.
+pub fn job_refusal(file: &[u8], places: usize, hit_cycles: u32) -> u32 {
     let refusal = file_refusal(file);
     if refusal != 0 {
         return refusal;
     }
-    if places < traces_in(file) as usize {
-        16
-    } else {
-        0
+    let traces = traces_in(file);
+    if hits_declined(file, traces, hit_cycles) {
+        return 17;
     }
+    if places < traces as usize { 16 } else { 0 }
 }

@@ -22,11 +22,18 @@ pub struct WholeJob {
 // The worst time of an accepted body over all settlings, each of which is run, where at most `flags` of its flags
 // are unknown. With more it is the time with every unknown flag a miss, as in `model::all_hits_all_misses`: that no
 // other settling is slower is the engine's claim, and not counted out here.
-fn worst(body: &[u8], flags: u32, out: &mut [u8], stages: &mut [u8], counts: &mut [u32]) -> u32 {
+fn worst(
+    body: &[u8],
+    flags: u32,
+    out: &mut [u8],
+    stages: &mut [u8],
+    counts: &mut [u32],
+    hit_cycles: u32,
+) -> u32 {
     if model::unknowns(body) > flags {
-        return model::finish_with_all(body, model::MISS);
+        return model::finish_with_all(body, model::MISS, hit_cycles);
     }
-    let times = model::bounds_in(body, out, stages, counts);
+    let times = model::bounds_in(body, out, stages, counts, hit_cycles);
     times.worst
 }
 
@@ -39,6 +46,7 @@ fn worst_at(
     out: &mut [u8],
     stages: &mut [u8],
     counts: &mut [u32],
+    hit_cycles: u32,
 ) -> u32 {
     if start > file.len() {
         return NO_TIME;
@@ -47,7 +55,7 @@ fn worst_at(
         return NO_TIME;
     }
     let end = start + length;
-    worst(&file[start..end], flags, out, stages, counts)
+    worst(&file[start..end], flags, out, stages, counts, hit_cycles)
 }
 
 // "What opening and timing that trace alone gives"; none where Open declines.
@@ -58,6 +66,7 @@ fn worst_alone(
     out: &mut [u8],
     stages: &mut [u8],
     counts: &mut [u32],
+    hit_cycles: u32,
 ) -> u32 {
     let opened = model::open(file, trace);
     if opened.refusal != 0 {
@@ -71,6 +80,7 @@ fn worst_alone(
         out,
         stages,
         counts,
+        hit_cycles,
     )
 }
 
@@ -90,10 +100,11 @@ fn fill(
     out: &mut [u8],
     stages: &mut [u8],
     counts: &mut [u32],
+    hit_cycles: u32,
 ) {
     let mut trace: u32 = 0;
     while trace < traces {
-        let time = worst_alone(file, trace, flags, out, stages, counts);
+        let time = worst_alone(file, trace, flags, out, stages, counts, hit_cycles);
         put_time(times, trace as usize, time);
         trace += 1;
     }
@@ -108,13 +119,14 @@ fn whole_job(
     out: &mut [u8],
     stages: &mut [u8],
     counts: &mut [u32],
+    hit_cycles: u32,
 ) -> WholeJob {
-    let refusal = job_refusal(file, times.len());
+    let refusal = job_refusal(file, times.len(), hit_cycles);
     if refusal != 0 {
         return WholeJob { refusal, traces: 0 };
     }
     let traces = traces_in(file);
-    fill(file, traces, flags, times, out, stages, counts);
+    fill(file, traces, flags, times, out, stages, counts, hit_cycles);
     WholeJob { refusal: 0, traces }
 }
 
@@ -127,15 +139,24 @@ pub fn worst_times_in(
     out: &mut [u8],
     stages: &mut [u8],
     counts: &mut [u32],
+    hit_cycles: u32,
 ) -> WholeJob {
-    whole_job(file, ALL_FLAGS, times, out, stages, counts)
+    whole_job(file, ALL_FLAGS, times, out, stages, counts, hit_cycles)
 }
 
 // The same with arrays of its own, for the largest body. A trace with more than six unknown flags has the time with
 // every one a miss, so that a file of sixteen traces with many unknown flags can be run.
-pub fn worst_times(file: &[u8], times: &mut [u32]) -> WholeJob {
+pub fn worst_times(file: &[u8], times: &mut [u32], hit_cycles: u32) -> WholeJob {
     let mut out = [0u8; 40960];
     let mut stages = [0u8; 4096];
     let mut counts = [0u32; 4096];
-    whole_job(file, FEW_FLAGS, times, &mut out, &mut stages, &mut counts)
+    whole_job(
+        file,
+        FEW_FLAGS,
+        times,
+        &mut out,
+        &mut stages,
+        &mut counts,
+        hit_cycles,
+    )
 }

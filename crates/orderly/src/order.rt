@@ -2,6 +2,7 @@
 ghost use mathlib.Core.Path.{_≡_};
 ghost use lib.ListN.{length};
 ghost use Rattle.machine.specs.Instruction.{Trace};
+ghost use Rattle.machine.specs.Hits.{withHits};
 ghost use Rattle.machine.specs.State.{orderly};
 ghost use Rattle.standing.specs.Inner.{Reads};
 ghost use Rattle.orderly.specs.Inner.{countOf, storesApart, allCounted};
@@ -33,19 +34,20 @@ fn stores_apart(s: State, w: Standing) -> bool
     (!s.WB.filled | !is_store(w.WB)) & (!s.ST.filled | below) & (!s.ST.filled | is_store(w.ST))
 }
 
-fn all_counted(s: State, w: Standing) -> bool
-    ensures { λ r. ⌜ ((trace : Trace) → Reads trace s w → r ≡ allCounted trace s) ⌝ }
+fn all_counted(s: State, w: Standing, hit_cycles: u32) -> bool
+    ensures { λ r. ⌜ ((trace : Trace) → Reads trace s w → r ≡ allCounted (withHits «hit_cycles» trace) s) ⌝ }
 {
     counted(s.IF, count_in_if(w.IF))
         & counted(s.ID, 0)
         & counted(s.EX, w.EX.execution)
-        & counted(s.MEM, count_in_mem(w.MEM))
-        & counted(s.ST, count_in_st(w.ST))
+        & counted(s.MEM, count_in_mem(w.MEM, hit_cycles))
+        & counted(s.ST, count_in_st(w.ST, hit_cycles))
         & counted(s.WB, 0)
 }
 
-pub fn orderly(n: u32, s: State, w: Standing) -> bool
-    ensures { λ r. ⌜ ((trace : Trace) → Reads trace s w → length trace ≡ n → r ≡ orderly trace s) ⌝ }
+// For the trace whose instructions are read, where a data hit takes so many cycles.
+pub fn orderly(n: u32, s: State, w: Standing, hit_cycles: u32) -> bool
+    ensures { λ r. ⌜ ((trace : Trace) → Reads trace s w → length trace ≡ n → r ≡ orderly (withHits «hit_cycles» trace) s) ⌝ }
 {
-    in_order(n, s) & stores_apart(s, w) & all_counted(s, w)
+    in_order(n, s) & stores_apart(s, w) & all_counted(s, w, hit_cycles)
 }

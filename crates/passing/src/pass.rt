@@ -4,7 +4,7 @@ ghost use Prim.Native.Nat.{_+_, _<_, _≤_};
 ghost use Rattle.machine.specs.Time.{finish, settle};
 ghost use Rattle.machine.proofs.Window.{windowBefore, timesAt};
 ghost use Rattle.record.specs.Rules.{flagOf};
-ghost use Rattle.record.specs.Body.{records, traceOf, bodyRefusal};
+ghost use Rattle.record.specs.Body.{records, traceWith, timedRefusal};
 ghost use Rattle.entering.specs.Inner.{windowOf};
 ghost use Rattle.schedule.specs.Inner.{timesOf};
 ghost use Rattle.passing.specs.Inner.{Skipped};
@@ -47,12 +47,12 @@ fn no_times() -> Times {
 
 // Record k, timed: its fields with unknown flags as the flag `to`, its times by the window before it,
 // and the window after it.
-fn timed_at(body: &[u8], to: u32, k: u32, w: Window) -> Timed
-    requires { ⌜ (bodyRefusal (now body) ≡ 0) × (k < records (now body)) × (windowOf w ≡ windowBefore (settle (flagOf to) (traceOf (now body))) k) ⌝ }
-    ensures { λ r. ⌜ (timesOf (r .times) ≡ timesAt (settle (flagOf to) (traceOf (now (body .entry)))) k) × (windowOf (r .window) ≡ windowBefore (settle (flagOf to) (traceOf (now (body .entry)))) (k + 1)) ⌝ }
+fn timed_at(body: &[u8], to: u32, k: u32, w: Window, hit_cycles: u32) -> Timed
+    requires { ⌜ (timedRefusal (now body) «hit_cycles» ≡ 0) × (k < records (now body)) × (windowOf w ≡ windowBefore (settle (flagOf to) (traceWith (now body) «hit_cycles»)) k) ⌝ }
+    ensures { λ r. ⌜ (timesOf (r .times) ≡ timesAt (settle (flagOf to) (traceWith (now (body .entry)) «hit_cycles»)) k) × (windowOf (r .window) ≡ windowBefore (settle (flagOf to) (traceWith (now (body .entry)) «hit_cycles»)) (k + 1)) ⌝ }
 {
     let f = settled_at(body, to, k);
-    let times = times_from(w, f);
+    let times = times_from(w, f, hit_cycles);
     Timed {
         times,
         window: slide(w, f, times),
@@ -60,15 +60,15 @@ fn timed_at(body: &[u8], to: u32, k: u32, w: Window) -> Timed
 }
 
 // From instruction `from` on, which has the window w before it, the first that has not left by the limit.
-pub fn skip_left(body: &[u8], to: u32, limit: u32, from: u32, w: Window) -> Reached
-    requires { ⌜ (bodyRefusal (now body) ≡ 0) × (from ≤ records (now body)) × (windowOf w ≡ windowBefore (settle (flagOf to) (traceOf (now body))) from) ⌝ }
-    ensures { λ r. ⌜ Skipped (settle (flagOf to) (traceOf (now (body .entry)))) limit from r ⌝ }
+pub fn skip_left(body: &[u8], to: u32, limit: u32, from: u32, w: Window, hit_cycles: u32) -> Reached
+    requires { ⌜ (timedRefusal (now body) «hit_cycles» ≡ 0) × (from ≤ records (now body)) × (windowOf w ≡ windowBefore (settle (flagOf to) (traceWith (now body) «hit_cycles»)) from) ⌝ }
+    ensures { λ r. ⌜ Skipped (settle (flagOf to) (traceWith (now (body .entry)) «hit_cycles»)) limit from r ⌝ }
 {
     let records = count(body);
     let mut window = w;
     let mut k = from;
     while k < records {
-        let timed = timed_at(body, to, k, window);
+        let timed = timed_at(body, to, k, window, hit_cycles);
         let times = timed.times;
         window = timed.window;
         if limit < times.post {
@@ -84,10 +84,10 @@ pub fn skip_left(body: &[u8], to: u32, limit: u32, from: u32, w: Window) -> Reac
 }
 
 // The finishing time where every unknown flag becomes the flag `to`.
-pub fn finish_settled(body: &[u8], to: u32) -> u32
-    requires { ⌜ bodyRefusal (now body) ≡ 0 ⌝ }
-    ensures { λ r. ⌜ r ≡ finish (settle (flagOf to) (traceOf (now (body .entry)))) ⌝ }
+pub fn finish_settled(body: &[u8], to: u32, hit_cycles: u32) -> u32
+    requires { ⌜ timedRefusal (now body) «hit_cycles» ≡ 0 ⌝ }
+    ensures { λ r. ⌜ r ≡ finish (settle (flagOf to) (traceWith (now (body .entry)) «hit_cycles»)) ⌝ }
 {
-    let end = skip_left(body, to, NEVER, 0, no_window());
+    let end = skip_left(body, to, NEVER, 0, no_window(), hit_cycles);
     all_left_by(end.window)
 }

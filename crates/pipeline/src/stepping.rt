@@ -16,10 +16,10 @@ pub struct Stepped {
 }
 
 // The refusals in their order, else the cycle; a refusal gives the given state back.
-pub fn step(body: &[u8], s: State) -> Stepped
-    ensures { λ r. ⌜ r ≡ stepAnswer (now (body .entry)) s ⌝ }
+pub fn step(body: &[u8], s: State, hit_cycles: u32) -> Stepped
+    ensures { λ r. ⌜ r ≡ stepAnswer (now (body .entry)) s «hit_cycles» ⌝ }
 {
-    let fault = settled_refusal(body);
+    let fault = settled_refusal(body, hit_cycles);
     if fault != 0 {
         return Stepped {
             refusal: fault,
@@ -28,10 +28,10 @@ pub fn step(body: &[u8], s: State) -> Stepped
     }
     let n = count(body);
     let w = read_stages(body, s);
-    if orderly(n, s, w) {
+    if orderly(n, s, w, hit_cycles) {
         return Stepped {
             refusal: 0,
-            state: cycle(n, s, w),
+            state: cycle(n, s, w, hit_cycles),
         };
     }
     Stepped {

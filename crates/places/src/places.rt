@@ -1,5 +1,6 @@
 // Where an instruction stands after a number of cycles, from its times.
 ghost use mathlib.Core.Path.{_≡_};
+ghost use Rattle.machine.specs.Hits.{withHit};
 ghost use Rattle.machine.proofs.Window.{placeAt};
 ghost use Rattle.record.specs.Rules.{instructionOf};
 ghost use Rattle.schedule.specs.Inner.{timesOf};
@@ -28,8 +29,8 @@ pub struct Place {
     pub count: u32,
 }
 
-pub fn place_at(f: Fields, e: Times, t: u32) -> Place
-    ensures { λ r. ⌜ r ≡ numbered (placeAt (instructionOf f) (timesOf e) t) ⌝ }
+pub fn place_at(f: Fields, e: Times, t: u32, hit_cycles: u32) -> Place
+    ensures { λ r. ⌜ r ≡ numbered (placeAt (withHit «hit_cycles» (instructionOf f)) (timesOf e) t) ⌝ }
 {
     if t < e.IF {
         return Place {
@@ -58,13 +59,13 @@ pub fn place_at(f: Fields, e: Times, t: u32) -> Place
     if t < e.last {
         return Place {
             stage: MEM,
-            count: less(count_in_mem(f), t - e.MEM),
+            count: less(count_in_mem(f, hit_cycles), t - e.MEM),
         };
     }
     if t < e.post {
         return Place {
             stage: choose(is_store(f), ST, WB),
-            count: less(count_in_last(f), t - e.last),
+            count: less(count_in_last(f, hit_cycles), t - e.last),
         };
     }
     Place {

@@ -12,12 +12,18 @@ use files::long_ones_agree;
 use libc::STDOUT_FILENO;
 use print::print;
 use random_traces::Dice;
+use random_traces::Draft;
 use random_traces::SEED;
 use random_traces::Style;
+use random_traces::hits_from;
+use random_traces::part;
+use random_traces::rolled;
 use random_traces::trace;
 use tally::Tally;
 use tally::more;
 use tally::nothing;
+use turns::declined;
+use turns::declined_turn;
 use turns::file_turn;
 use turns::long_turn;
 use turns::refusal_turn;
@@ -31,24 +37,43 @@ struct Turn {
     tally: Tally,
 }
 
-// Of the traces every fourth has unknown flags, and a few have the longest latencies.
+// Of the traces every fourth has unknown flags, a few have the longest latencies, and another fourth has
+// data latencies near h.
+fn style_of(k: u64, dice: Dice) -> Style {
+    let long = k % 4001 == 0;
+    let unknown = k % 4 == 3 && !long;
+    let d = rolled(dice);
+    Style {
+        flags: if unknown { 3 } else { 2 },
+        long,
+        hit_cycles: hits_from(d),
+        near: part(d, 20, 4) == 0,
+    }
+}
+
+// The trace by itself.
+fn timed_turn(draft: Draft, style: Style, tally: Tally) -> Tally {
+    if declined(draft, style.hit_cycles) {
+        return declined_turn(draft, style.hit_cycles, tally);
+    }
+    if style.long {
+        return long_turn(draft, style.hit_cycles, tally);
+    }
+    if style.flags == 3 {
+        return unknown_turn(draft, style.hit_cycles, tally);
+    }
+    settled_turn(draft, style.hit_cycles, tally)
+}
+
 fn one_more(before: Turn, k: u64) -> Turn {
     let mut tally = before.tally;
     tally.traces = more(tally.traces, 1);
-    let long = k % 4001 == 0;
-    let unknown = k % 4 == 3 && !long;
-    let flags = if unknown { 3 } else { 2 };
-    let style = Style { flags, long };
+    let style = style_of(k, before.dice);
     let draft = trace(before.dice, style);
-    let timed = if long {
-        long_turn(draft, tally)
-    } else if unknown {
-        unknown_turn(draft, tally)
-    } else {
-        settled_turn(draft, tally)
-    };
+    let timed = timed_turn(draft, style, tally);
     let dice = draft.dice;
-    let after = refusal_turn(draft, file_turn(draft, timed));
+    let files = file_turn(draft, timed);
+    let after = refusal_turn(draft, style.hit_cycles, files);
     Turn { dice, tally: after }
 }
 

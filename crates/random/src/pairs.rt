@@ -123,6 +123,7 @@ fn ordered_in(
     counts: &mut [u32],
     later_stages: &mut [u8],
     later_counts: &mut [u32],
+    hit_cycles: u32,
 ) -> bool {
     let n = model::size(first);
     model::start(first, stages, counts);
@@ -132,14 +133,14 @@ fn ordered_in(
         if !row_ordered(n, stages, counts, later_stages, later_counts) {
             return false;
         }
-        model::cycle(first, stages, counts);
-        model::cycle(second, later_stages, later_counts);
+        model::cycle(first, stages, counts, hit_cycles);
+        model::cycle(second, later_stages, later_counts, hit_cycles);
         c += 1;
     }
     row_ordered(n, stages, counts, later_stages, later_counts)
 }
 
-pub fn ordered(first: &[u8], second: &[u8], cycles: u32) -> bool {
+pub fn ordered(first: &[u8], second: &[u8], cycles: u32, hit_cycles: u32) -> bool {
     let mut stages = [0u8; 16];
     let mut counts = [0u32; 16];
     let mut later_stages = [0u8; 16];
@@ -152,6 +153,7 @@ pub fn ordered(first: &[u8], second: &[u8], cycles: u32) -> bool {
         &mut counts,
         &mut later_stages,
         &mut later_counts,
+        hit_cycles,
     )
 }
 

@@ -8,7 +8,9 @@ fn line(count: u64, what: &[u8]) {
 }
 
 fn rows_and_times(t: Tally) {
-    line(t.traces, b" traces\n");
+    line(t.traces, b" traces, ");
+    line(t.declined, b" of them declined with 17, ");
+    line(t.with_hits, b" compared with h above 0\n");
     line(t.rows, b" rows from Run\n");
     line(t.steps, b" rows from Step\n");
     line(t.finishes, b" finishing times\n");
@@ -34,9 +36,9 @@ fn refusal_line(number: u64, count: u64) {
 }
 
 // How often each refusal was the answer of Open, of Write, or to a body.
-fn refusals(seen: [u64; 15]) {
+fn refusals(seen: [u64; 18]) {
     let mut i = 1;
-    while i < 15 {
+    while i < 18 {
         refusal_line(i as u64, seen[i]);
         i += 1;
     }

@@ -37,8 +37,9 @@ fn row_agrees<'a>(
     body: &'a [u8],
     stages: &'a [u8],
     counts: &'a [u32],
+    hit_cycles: u32,
 ) -> bool {
-    let ran = run(body, cycle);
+    let ran = run(body, cycle, hit_cycles);
     let cycles = if cycle < finish { cycle } else { finish };
     ran.refusal == 0
         && ran.cycles == cycles
@@ -61,15 +62,21 @@ fn stepped_rows(finish: u32) -> u32 {
 
 // Rows 0 to one past the finishing time, each by Run, and each but the first by Step of the one
 // before.
-fn rows_in(body: &[u8], finish: u32, stages: &mut [u8], counts: &mut [u32]) -> Compared {
+fn rows_in(
+    body: &[u8],
+    finish: u32,
+    stages: &mut [u8],
+    counts: &mut [u32],
+    hit_cycles: u32,
+) -> Compared {
     model::start(body, stages, counts);
     let mut s = State::start();
     let end = stepped_rows(finish);
     let mut cycle = 0;
     while cycle < end {
-        let row = row_agrees(cycle, finish, body, stages, counts);
-        let next = step(body, s);
-        model::cycle(body, stages, counts);
+        let row = row_agrees(cycle, finish, body, stages, counts, hit_cycles);
+        let next = step(body, s, hit_cycles);
+        model::cycle(body, stages, counts, hit_cycles);
         if !row || !step_agrees(next, body, stages, counts) {
             return Compared {
                 compared: cycle,
@@ -81,12 +88,12 @@ fn rows_in(body: &[u8], finish: u32, stages: &mut [u8], counts: &mut [u32]) -> C
     }
     Compared {
         compared: cycle,
-        agree: row_agrees(cycle, finish, body, stages, counts),
+        agree: row_agrees(cycle, finish, body, stages, counts, hit_cycles),
     }
 }
 
-pub fn rows(body: &[u8], finish: u32) -> Compared {
+pub fn rows(body: &[u8], finish: u32, hit_cycles: u32) -> Compared {
     let mut stages = [0u8; 16];
     let mut counts = [0u32; 16];
-    rows_in(body, finish, &mut stages, &mut counts)
+    rows_in(body, finish, &mut stages, &mut counts, hit_cycles)
 }

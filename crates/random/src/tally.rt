@@ -1,6 +1,9 @@
-// How many of each were compared, and the first trace at which the engine and the model differ.
+// How many of each were compared, and the first trace at which the engine and the model differ. Of the
+// traces, how many 17 declined, and how many were compared with h above 0.
 pub struct Tally {
     pub traces: u64,
+    pub declined: u64,
+    pub with_hits: u64,
     pub rows: u64,
     pub steps: u64,
     pub finishes: u64,
@@ -13,13 +16,15 @@ pub struct Tally {
     pub files: u64,
     pub damaged: u64,
     pub refusals: u64,
-    pub seen: [u64; 15],
+    pub seen: [u64; 18],
     pub wrong: u64,
 }
 
 pub fn nothing() -> Tally {
     Tally {
         traces: 0,
+        declined: 0,
+        with_hits: 0,
         rows: 0,
         steps: 0,
         finishes: 0,
@@ -32,7 +37,7 @@ pub fn nothing() -> Tally {
         files: 0,
         damaged: 0,
         refusals: 0,
-        seen: [0; 15],
+        seen: [0; 18],
         wrong: 0,
     }
 }
@@ -48,6 +53,15 @@ pub fn more(count: u64, n: u64) -> u64 {
     count + n
 }
 
+// A trace was compared with this h.
+pub fn compared(t: Tally, hit_cycles: u32) -> Tally {
+    let mut u = t;
+    if hit_cycles > 0 {
+        u.with_hits = more(t.with_hits, 1);
+    }
+    u
+}
+
 pub fn held(t: Tally, agree: bool) -> Tally {
     let mut u = t;
     if !agree && t.wrong == 0 {
@@ -60,7 +74,7 @@ pub fn held(t: Tally, agree: bool) -> Tally {
 pub fn seen(t: Tally, number: u32) -> Tally {
     let mut u = t;
     let at = number as usize;
-    if at < 15 {
+    if at < 18 {
         u.seen[at] = more(u.seen[at], 1);
     }
     u

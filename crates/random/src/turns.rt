@@ -11,6 +11,7 @@ use crate::pairs::slower;
 use crate::refusals::refusals_agree;
 use crate::rows::rows;
 use crate::tally::Tally;
+use crate::tally::compared;
 use crate::tally::held;
 use crate::tally::more;
 use crate::tally::seen;
@@ -30,10 +31,13 @@ use record::layout::RECORD_SIZE;
 ghost use Prim.Native.Nat.{_<_};
 
 // Every row and the finishing time of a trace without unknown flags.
-fn rows_turn(body: &[u8], tally: Tally) -> Tally {
-    let time = model_finish(body);
-    let seen = rows(body, time);
-    let mut t = held(held(tally, finish_agrees(body, time)), seen.agree);
+fn rows_turn(body: &[u8], hit_cycles: u32, tally: Tally) -> Tally {
+    let time = model_finish(body, hit_cycles);
+    let seen = rows(body, time, hit_cycles);
+    let mut t = held(
+        held(tally, finish_agrees(body, time, hit_cycles)),
+        seen.agree,
+    );
     t.finishes = more(t.finishes, 1);
     t.rows = more(t.rows, seen.compared as u64);
     t.steps = more(t.steps, seen.compared as u64);
@@ -53,22 +57,22 @@ fn near(worst: u32, slack: u32) -> u32
 }
 
 // A margin for a deadline near the worst time, with its sign.
-fn margin_turn(body: &[u8], worst: u32, d: Dice, tally: Tally) -> Tally {
+fn margin_turn(body: &[u8], worst: u32, d: Dice, hit_cycles: u32, tally: Tally) -> Tally {
     let deadline = near(worst, part(d, 7, 5));
-    let mut t = held(tally, margin_agrees(body, worst, deadline));
+    let mut t = held(tally, margin_agrees(body, worst, deadline, hit_cycles));
     t.margins = more(t.margins, 1);
     t
 }
 
-// The order and, where only latencies differ, the sum bound; likeness of the two.
-fn pair_turn(body: &[u8], second: &[u8], flags: bool, tally: Tally) -> Tally {
-    let early = model_finish(body);
-    let late = model_finish(second);
-    let order = early <= late && ordered(body, second, late);
+// The order and, where only latencies differ, the sum bound, with one h for both; likeness of the two.
+fn pair_turn(body: &[u8], second: &[u8], flags: bool, hit_cycles: u32, tally: Tally) -> Tally {
+    let early = model_finish(body, hit_cycles);
+    let late = model_finish(second, hit_cycles);
+    let order = early <= late && ordered(body, second, late, hit_cycles);
     let sum = flags || late as u64 <= more(early as u64, added(body, second));
     let mut t = held(
         held(held(tally, order), sum),
-        likeness_agrees(body, second, early == late),
+        likeness_agrees(body, second, early == late, hit_cycles),
     );
     t.pairs = more(t.pairs, 1);
     t.sums = more(t.sums, if flags { 0 } else { 1 });
@@ -76,7 +80,7 @@ fn pair_turn(body: &[u8], second: &[u8], flags: bool, tally: Tally) -> Tally {
     t
 }
 
-pub fn settled_turn(draft: Draft, tally: Tally) -> Tally {
+pub fn settled_turn(draft: Draft, hit_cycles: u32, tally: Tally) -> Tally {
     let n = length_of(draft);
     let bytes = draft.bytes;
     let whole: &[u8] = &bytes;
@@ -86,17 +90,18 @@ pub fn settled_turn(draft: Draft, tally: Tally) -> Tally {
     let other = later.bytes;
     let all: &[u8] = &other;
     let second = first(all, n);
-    let t = rows_turn(second, rows_turn(body, tally));
-    let worst = model_finish(second);
-    margin_turn(second, worst, draft.dice, pair_turn(body, second, flags, t))
+    let t = rows_turn(second, hit_cycles, rows_turn(body, hit_cycles, tally));
+    let worst = model_finish(second, hit_cycles);
+    let both = pair_turn(body, second, flags, hit_cycles, compared(t, hit_cycles));
+    margin_turn(second, worst, draft.dice, hit_cycles, both)
 }
 
 // One trace with a latency of 65,535 somewhere, whose rows are many.
-pub fn long_turn(draft: Draft, tally: Tally) -> Tally {
+pub fn long_turn(draft: Draft, hit_cycles: u32, tally: Tally) -> Tally {
     let n = length_of(draft);
     let bytes = draft.bytes;
     let whole: &[u8] = &bytes;
-    rows_turn(first(whole, n), tally)
+    rows_turn(first(whole, n), hit_cycles, compared(tally, hit_cycles))
 }
 
 fn settlings_of(unknown: u32) -> u64 {
@@ -104,7 +109,7 @@ fn settlings_of(unknown: u32) -> u64 {
 }
 
 // Best and worst against all settlings, where there are at most 64.
-pub fn unknown_turn(draft: Draft, tally: Tally) -> Tally {
+pub fn unknown_turn(draft: Draft, hit_cycles: u32, tally: Tally) -> Tally {
     let n = length_of(draft);
     let bytes = draft.bytes;
     let whole: &[u8] = &bytes;
@@ -113,11 +118,34 @@ pub fn unknown_turn(draft: Draft, tally: Tally) -> Tally {
     if unknown > 6 {
         return tally;
     }
-    let times = model_bounds(body);
-    let mut t = held(tally, bounds_agree(body, times.best, times.worst));
+    let times = model_bounds(body, hit_cycles);
+    let agree = bounds_agree(body, times.best, times.worst, hit_cycles);
+    let mut t = held(compared(tally, hit_cycles), agree);
     t.bounds = more(t.bounds, 1);
     t.settlings = more(t.settlings, settlings_of(unknown));
-    margin_turn(body, times.worst, draft.dice, t)
+    margin_turn(body, times.worst, draft.dice, hit_cycles, t)
+}
+
+// Whether 17 declines the trace.
+pub fn declined(draft: Draft, hit_cycles: u32) -> bool {
+    let n = length_of(draft);
+    let bytes = draft.bytes;
+    let whole: &[u8] = &bytes;
+    model::hit_refusal(first(whole, n), hit_cycles) != 0
+}
+
+// What each call answers to a trace that 17 declines, and Alike beside a slower one that it may accept.
+pub fn declined_turn(draft: Draft, hit_cycles: u32, tally: Tally) -> Tally {
+    let n = length_of(draft);
+    let bytes = draft.bytes;
+    let whole: &[u8] = &bytes;
+    let later = slower(draft, true);
+    let other = later.bytes;
+    let all: &[u8] = &other;
+    let agree = refusals_agree(first(whole, n), first(all, n), hit_cycles);
+    let mut t = held(tally, agree);
+    t.declined = more(t.declined, 1);
+    t
 }
 
 // A job file as Write made it.
@@ -157,15 +185,16 @@ pub fn file_turn(draft: Draft, tally: Tally) -> Tally {
     both_turns(file, draft.dice, t)
 }
 
-fn broken_turn(body: &[u8], lawful: &[u8], tally: Tally) -> Tally {
-    let number = model::settled_refusal(body);
-    let mut t = held(seen(tally, number), refusals_agree(body, lawful));
+fn broken_turn(body: &[u8], lawful: &[u8], hit_cycles: u32, tally: Tally) -> Tally {
+    let number = model::settled_refusal(body, hit_cycles);
+    let agree = refusals_agree(body, lawful, hit_cycles);
+    let mut t = held(seen(tally, number), agree);
     t.refusals = more(t.refusals, 1);
     t
 }
 
 // The refusals of a body that may be broken, by every call that takes one and by Write.
-pub fn refusal_turn(draft: Draft, tally: Tally) -> Tally {
+pub fn refusal_turn(draft: Draft, hit_cycles: u32, tally: Tally) -> Tally {
     let n = length_of(draft);
     let bytes = draft.bytes;
     let whole: &[u8] = &bytes;
@@ -173,7 +202,7 @@ pub fn refusal_turn(draft: Draft, tally: Tally) -> Tally {
     let bad = hurt.bytes;
     let all: &[u8] = &bad;
     let body = first(all, hurt.length);
-    let t = broken_turn(body, first(whole, n), tally);
+    let t = broken_turn(body, first(whole, n), hit_cycles, tally);
     let file = written(body, hurt.length / RECORD_SIZE, draft.dice);
     held(seen(t, file.refusal), file.agree)
 }

@@ -14,5 +14,6 @@ pub use dice::small;
 pub use traces::Draft;
 pub use traces::Style;
 pub use traces::first;
+pub use traces::hits_from;
 pub use traces::length_of;
 pub use traces::trace;

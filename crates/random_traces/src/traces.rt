@@ -11,6 +11,9 @@ use record::put_record;
 
 const MOST: u32 = 12;
 
+// How many h there are to draw: 0 to 15, and 16, with which 17 declines every trace.
+const HITS: u32 = 17;
+
 // A body of n records and the dice after it.
 pub struct Draft {
     pub bytes: [u8; 120],
@@ -18,11 +21,19 @@ pub struct Draft {
     pub dice: Dice,
 }
 
-// What a trace is drawn from: how many flags there are to choose among, and whether a latency may be
-// the longest.
+// What a trace is drawn from: how many flags there are to choose among, whether a latency may be the
+// longest, h, and whether data latencies come near it.
 pub struct Style {
     pub flags: u64,
     pub long: bool,
+    pub hit_cycles: u32,
+    pub near: bool,
+}
+
+pub fn hits_from(d: Dice) -> u32
+    ensures { λ r. ⌜ r < 17 ⌝ }
+{
+    part(d, 40, HITS as u64) % HITS
 }
 
 fn latency(d: Dice, at: u32, long: bool) -> u32
@@ -32,6 +43,36 @@ fn latency(d: Dice, at: u32, long: bool) -> u32
         return 65535;
     }
     1 + part(d, at, 6) % 6
+}
+
+// A latency above h, which 17 does not decline.
+fn above(hit_cycles: u32, latency: u32) -> u32
+    requires { ⌜ latency < 65536 ⌝ }
+    ensures { λ r. ⌜ r < 65536 ⌝ }
+{
+    let sum = latency + hit_cycles % HITS;
+    if sum > 65535 { 65535 } else { sum }
+}
+
+// h - 1, h or h + 1, of which 17 declines the first two, but no latency of 0, which 8 declines.
+fn about(hit_cycles: u32, d: Dice) -> u32
+    ensures { λ r. ⌜ r < 65536 ⌝ }
+{
+    let above = hit_cycles % HITS + part(d, 33, 3) % 3;
+    if above < 2 {
+        return 1;
+    }
+    above - 1
+}
+
+// Above h but for, where that is asked, every other one.
+fn data_latency(d: Dice, style: Style) -> u32
+    ensures { λ r. ⌜ r < 65536 ⌝ }
+{
+    if style.near && part(d, 30, 2) == 0 {
+        return about(style.hit_cycles, d);
+    }
+    above(style.hit_cycles, latency(d, 8, style.long))
 }
 
 fn only(test: bool, n: u32) -> u32
@@ -57,7 +98,7 @@ fn drawn(d: Dice, e: Dice, style: Style) -> Fields
         target: only(kind < 2, part(d, 16, 4) % 4),
         execution: only(part(d, 24, 2) != 0, part(d, 20, 5) % 5),
         fetch_latency: latency(e, 0, style.long),
-        data_latency: only(memory, latency(e, 8, style.long)),
+        data_latency: only(memory, data_latency(e, style)),
     }
 }
 

@@ -30,6 +30,12 @@ then-joins first second third =
       | no h ↦ then-some first (second then third) h ∙ rw (then-some first second h) (sym (then-some first third h))
     ]
 
+pub four-join :
+    (first second third fourth : ℕ) →
+    (first then second then third then fourth) ≡ (((first then second) then third) then fourth)
+four-join first second third fourth =
+    then-joins first second (third then fourth) ∙ then-joins (first then second) third fourth
+
 -- if a list gives no refusal, neither part does
 pub then-first : (first second : ℕ) → (first then second) ≡ 0 → first ≡ 0
 then-first first second e = elim (ℕ-discrete first 0) [ yes z ↦ z | no h ↦ sym (then-some first second h) ∙ e ]

@@ -17,7 +17,7 @@ or-false true b e = (e, cc)
 or-false false b e = (refl, e)
 
 -- a rule for some kinds only: if the kind is one of them, the rest of the test fails
-and-false : (a b : Bool) → (a && b) ≡ false → a ≡ true → b ≡ false
+pub and-false : (a b : Bool) → (a && b) ≡ false → a ≡ true → b ≡ false
 and-false true b e t = e
 and-false false b e t = cc
 
@@ -37,6 +37,17 @@ OneOf n a b = (n ≡ a) ⊎ (n ≡ b)
 one-of : (n a b : ℕ) → OneOf n a b → (eqb n a || eqb n b) ≡ true
 one-of n a b (inl e) = rw (eq-eqb n a e)
 one-of n a b (inr e) = rw (eq-eqb n b e) (or-true (eqb n a))
+
+one-of-tests : (a b : Bool) → (a || b) ≡ true → (a ≡ true) ⊎ (b ≡ true)
+one-of-tests true b e = inl refl
+one-of-tests false b e = inr e
+
+pub one-of-true : (n a b : ℕ) → (eqb n a || eqb n b) ≡ true → OneOf n a b
+one-of-true n a b e = by (one-of-tests (eqb n a) (eqb n b) e)
+  where
+    by : (eqb n a ≡ true) ⊎ (eqb n b ≡ true) → OneOf n a b
+    by (inl t) = inl (eqb-true n a t)
+    by (inr t) = inr (eqb-true n b t)
 
 -- what holds for any bytes
 pub record Sized (f : Fields) : Type 0 where

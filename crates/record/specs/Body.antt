@@ -6,11 +6,12 @@ use lib.Dec.{ltb, leb, eqb}
 use lib.ListN.{length, take, drop}
 use Rattle.machine.specs.Test.{none}
 use Rattle.machine.specs.Instruction.{Trace}
+use Rattle.machine.specs.Hits.{withHits}
 use Rattle.machine.specs.State.{maxInstructions}
-use Rattle.record.specs.Refusal.{_then_, _unless_, brokenRecord, outOfRange, wrongLength, unknownFlag}
+use Rattle.record.specs.Refusal.{_then_, _unless_, brokenRecord, outOfRange, wrongLength, unknownFlag, longHit}
 use Rattle.little_endian.specs.Numbers.{byte}
 use Rattle.record.specs.Layout.{recordSize, flagsAt, fieldsFrom, recordBytes}
-use Rattle.record.specs.Rules.{breaksRules, hasUnknown, instructionOf}
+use Rattle.record.specs.Rules.{breaksRules, hasUnknown, notAbove, instructionOf}
 use Rattle.record.specs.declared.layout.Fields.{Fields}
 use Rattle.record.specs.declared.layout.Read.{Read}
 
@@ -32,6 +33,9 @@ breaksAt body k = breaksRules (fieldsAt body k) (byte body (k * recordSize + fla
 unfoldable pub unknownAt : List ℕ → ℕ → Bool
 unknownAt body k = hasUnknown (fieldsAt body k)
 
+unfoldable pub notAboveAt : List ℕ → ℕ → ℕ → Bool
+notAboveAt body h k = notAbove (fieldsAt body k) h
+
 -- the body with other fields in record k
 unfoldable pub withRecord : List ℕ → ℕ → Fields → List ℕ
 withRecord body k f = take (k * recordSize) body ++ recordBytes f ++ drop (k * recordSize + recordSize) body
@@ -46,6 +50,14 @@ module _ {A : Type 0} where
 unfoldable pub traceOf : List ℕ → Trace
 traceOf body = firsts (λ k. instructionOf (fieldsAt body k)) (records body)
 
+-- the same, if a data hit takes h cycles: document 02, F-4
+abbrev pub traceWith : List ℕ → ℕ → Trace
+traceWith body h = withHits h (traceOf body)
+
+-- "h more cycles, 0 to 15"
+abbrev pub maxHitCycles : ℕ
+maxHitCycles = 15
+
 -- "10 length not ten times a number up to 4,096"
 unfoldable pub lengthRefusal : List ℕ → ℕ
 lengthRefusal body = wrongLength unless (eqb (length body % recordSize) 0 && leb (records body) maxInstructions)
@@ -58,13 +70,25 @@ recordRefusal body = brokenRecord unless none (breaksAt body) (records body)
 unfoldable pub unknownRefusal : List ℕ → ℕ
 unknownRefusal body = unknownFlag unless none (unknownAt body) (records body)
 
+-- "17, after 8: h above 15, or a load or store whose data latency is not above h"
+unfoldable pub hitRefusal : List ℕ → ℕ → ℕ
+hitRefusal body h = longHit unless (leb h maxHitCycles && none (notAboveAt body h) (records body))
+
 -- "10, 8"
 unfoldable pub bodyRefusal : List ℕ → ℕ
 bodyRefusal body = lengthRefusal body then recordRefusal body
 
 -- "10, 8, 11"
-unfoldable pub settledRefusal : List ℕ → ℕ
-settledRefusal body = bodyRefusal body then unknownRefusal body
+unfoldable pub knownRefusal : List ℕ → ℕ
+knownRefusal body = bodyRefusal body then unknownRefusal body
+
+-- "10, 8", then 17
+unfoldable pub timedRefusal : List ℕ → ℕ → ℕ
+timedRefusal body h = bodyRefusal body then hitRefusal body h
+
+-- "10, 8", then 17, then "11"
+unfoldable pub settledRefusal : List ℕ → ℕ → ℕ
+settledRefusal body h = timedRefusal body h then unknownRefusal body
 
 -- "A refusal gives its number, zeros for numbers"
 abbrev pub noFields : Fields

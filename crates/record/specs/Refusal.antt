@@ -1,4 +1,5 @@
--- The refusal numbers of document 01, "What each call does and when it declines", each under its words; 0 is no refusal.
+-- The refusal numbers of document 01, "What each call does and when it declines", and of document 02 that calls share, each under its words; 0 is
+-- no refusal.
 use Prim.Native.Nat.{ℕ}
 use mathlib.Core.Bool.{Bool, cond}
 use lib.Dec.{eqb}
@@ -28,3 +29,7 @@ wrongLength = 10
 -- "11 an unknown flag"
 abbrev pub unknownFlag : ℕ
 unknownFlag = 11
+
+-- document 02, F-4: "17, after 8: h above 15, or a load or store whose data latency is not above h"
+abbrev pub longHit : ℕ
+longHit = 17

@@ -2,7 +2,7 @@
 -- record".
 use Prim.Native.Nat.{ℕ}
 use mathlib.Core.Bool.{Bool, not, cond, _||_, _&&_}
-use lib.Dec.{ltb, eqb}
+use lib.Dec.{ltb, leb, eqb}
 use Rattle.machine.specs.Instruction.{Kind, plain, load, store, branch, Flag, hit, miss, unknown, Instruction}
 use Rattle.record.specs.declared.layout.Fields.{Fields}
 
@@ -47,6 +47,10 @@ breaksRules f flags =
 unfoldable pub hasUnknown : Fields → Bool
 hasUnknown f = eqb (f .fetch) 2 || eqb (f .access) 2
 
+-- document 02, F-4: "a load or store whose data latency is not above h"
+unfoldable pub notAbove : Fields → ℕ → Bool
+notAbove f h = (eqb (f .kind) 1 || eqb (f .kind) 2) && leb (f .«data_latency») h
+
 -- The kind or flag of a number, and the number of a kind or flag. A number that the rules refuse reads as plain or as unknown.
 unfoldable pub kindOf : ℕ → Kind
 kindOf n = cond (eqb n 1) load (cond (eqb n 2) store (cond (eqb n 3) branch plain))
@@ -65,7 +69,7 @@ flagNumber hit = 0
 flagNumber miss = 1
 flagNumber unknown = 2
 
--- the instruction that a record's fields stand for
+-- the instruction that a record's fields stand for; the cycles of a data hit are no field of it
 unfoldable pub instructionOf : Fields → Instruction
 instructionOf f =
     record {
@@ -78,6 +82,7 @@ instructionOf f =
       executionLatency = f .execution;
       fetchLatency = f .«fetch_latency»;
       dataLatency = f .«data_latency»;
+      hitCycles = 0;
     }
 
 -- the fields of an instruction's record

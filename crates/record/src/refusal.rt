@@ -8,3 +8,5 @@ pub const OUT_OF_RANGE: u32 = 9;
 pub const WRONG_LENGTH: u32 = 10;
 // A flag is unknown where each must be a hit or a miss.
 pub const UNKNOWN_FLAG: u32 = 11;
+// A data hit takes more than 15 cycles, or no fewer than a load's or store's data latency.
+pub const LONG_HIT: u32 = 17;

@@ -1,12 +1,13 @@
-// Whether a record keeps its rules, and whether a flag of one that does is unknown. Inner functions:
-// each requires that the record is inside the bytes.
+// Whether a record keeps its rules, whether a flag of one that does is unknown, and whether its data
+// latency is above the cycles of a data hit. Inner functions: each requires that the record is inside
+// the bytes.
 ghost use mathlib.Core.Path.{_≡_};
 ghost use mathlib.Core.Bool.{false, cond};
 ghost use Prim.Native.Nat.{_+_, _≤_};
 ghost use lib.ListN.{length};
 ghost use Rattle.little_endian.specs.Numbers.{byte};
 ghost use Rattle.record.specs.Layout.{recordSize, flagsAt, fieldsFrom};
-ghost use Rattle.record.specs.Rules.{breaksRules, hasUnknown};
+ghost use Rattle.record.specs.Rules.{breaksRules, hasUnknown, notAbove};
 use little_endian::byte_at;
 use record::layout::FLAGS;
 use record::layout::fields_from;
@@ -49,4 +50,13 @@ pub fn unknown_from(bytes: &[u8], at: usize) -> bool
 {
     let f = fields_from(bytes, at);
     (f.fetch > 1) | (f.access > 1)
+}
+
+// Whether it is a load or store whose data latency is not above the cycles that a data hit takes.
+pub fn not_above_from(bytes: &[u8], at: usize, hit_cycles: u32) -> bool
+    requires { ⌜ at + recordSize ≤ length (now bytes) ⌝ }
+    ensures { λ r. ⌜ r ≡ notAbove (fieldsFrom (now (bytes .entry)) at) «hit_cycles» ⌝ }
+{
+    let f = fields_from(bytes, at);
+    ((f.kind == 1) | (f.kind == 2)) & (f.data_latency <= hit_cycles)
 }

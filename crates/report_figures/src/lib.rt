@@ -2,7 +2,7 @@
 ghost use mathlib.Core.Path.{_≡_};
 ghost use Prim.Native.Nat.{_+_, _≤_};
 ghost use Rattle.record.specs.Rules.{flagOf};
-ghost use Rattle.record.specs.Body.{traceOf, bodyRefusal};
+ghost use Rattle.record.specs.Body.{traceOf, traceWith, bodyRefusal, timedRefusal};
 ghost use Rattle.report_figures.specs.Figures.{isUnknown, unknownFlags, lineOf, met};
 use record::Fields;
 use record::count;
@@ -46,11 +46,11 @@ fn unknown_flags(body: &[u8]) -> u32
     unknown
 }
 
-pub fn line_of(body: &[u8], number: u32, deadline: u32) -> Line
-    requires { ⌜ bodyRefusal (now body) ≡ 0 ⌝ }
-    ensures { λ r. ⌜ r ≡ lineOf number (traceOf (now (body .entry))) deadline ⌝ }
+pub fn line_of(body: &[u8], number: u32, deadline: u32, hit_cycles: u32) -> Line
+    requires { ⌜ timedRefusal (now body) «hit_cycles» ≡ 0 ⌝ }
+    ensures { λ r. ⌜ r ≡ lineOf number (traceWith (now (body .entry)) «hit_cycles») deadline ⌝ }
 {
-    let times = best_worst(body);
+    let times = best_worst(body, hit_cycles);
     let unknown = unknown_flags(body);
     Line {
         number,

@@ -47,6 +47,18 @@ headerText =
 abbrev pub lineBytes : ℕ
 lineBytes = 11 + (2 + 5) + (2 + 12) + (2 + 7) + (2 + 10) + (2 + 10) + (2 + 10) + 1
 
+-- the cycles that a data hit takes, on a line of its own, where it takes any: `cycles of a data hit: N`
+unfoldable pub hitText : ℕ → List ℕ
+hitText zero = []
+hitText (suc h) =
+    (99 ∷ 121 ∷ 99 ∷ 108 ∷ 101 ∷ 115 ∷ space ∷ 111 ∷ 102 ∷ space ∷ 97 ∷ space ∷ 100 ∷ 97 ∷ 116 ∷ 97 ∷ space ∷ 104 ∷ 105 ∷ 116 ∷ 58 ∷ space ∷ [])
+    ++ decimal (suc h)
+    ++ (newline ∷ [])
+
+-- the most bytes of it: 22, the number and a newline
+abbrev pub hitBytes : ℕ
+hitBytes = 22 + mostDigits + 1
+
 -- `N of N deadlines met`
 unfoldable pub lastText : ℕ → ℕ → List ℕ
 lastText met all =

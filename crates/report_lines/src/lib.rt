@@ -1,11 +1,11 @@
-// The text of the report's lines: of a trace's, the margin, then the columns, each right-aligned; and
-// of the last. Inner functions for the report.
+// The text of the report's lines: of a trace's, the margin, then the columns, each right-aligned; of the
+// cycles of a data hit; and of the last. Inner functions for the report.
 ghost use mathlib.Core.Path.{_≡_};
 ghost use mathlib.Core.List.{_∷_};
 ghost use Prim.Native.Nat.{_+_, _≤_, _<_};
 ghost use lib.ListN.{length};
 ghost use Rattle.text.specs.Text.{Wrote, decimal, right};
-ghost use Rattle.report_lines.specs.Lines.{marginText, column, lineText, lineBytes, lastText, lastBytes};
+ghost use Rattle.report_lines.specs.Lines.{marginText, column, lineText, lineBytes, hitText, hitBytes, lastText, lastBytes};
 use report_figures::Line;
 use text::digits;
 use text::put_byte;
@@ -38,6 +38,9 @@ pub const LINE_BYTES: usize = MARGIN_WIDTH
     + 1;
 
 pub const LAST_BYTES: usize = 10 + 4 + 10 + 15;
+
+// The most of the line with the cycles of a data hit.
+pub const HIT_BYTES: usize = 22 + 10 + 1;
 
 fn put_signed(out: &mut [u8], at: usize, sign: u8, n: u32) -> usize
     requires { ⌜ at + 11 ≤ length (now out) ⌝ }
@@ -80,6 +83,19 @@ pub fn put_line(out: &mut [u8], at: usize, line: Line) -> usize
     let worst = put_column(out, best, TIME_WIDTH, line.best);
     let deadline = put_column(out, worst, TIME_WIDTH, line.worst);
     let end = put_column(out, deadline, TIME_WIDTH, line.deadline);
+    put_byte(out, end, b'\n')
+}
+
+// Nothing where a data hit takes no cycles.
+pub fn put_hit_cycles(out: &mut [u8], at: usize, hit_cycles: u32) -> usize
+    requires { ⌜ at + hitBytes ≤ length (now out) ⌝ }
+    ensures { λ r. ⌜ Wrote at (hitText «hit_cycles») (now (out .entry)) (now (out .exit)) r ⌝ }
+{
+    if hit_cycles == 0 {
+        return at;
+    }
+    let number = put_text(out, at, b"cycles of a data hit: ");
+    let end = put_decimal(out, number, hit_cycles);
     put_byte(out, end, b'\n')
 }
 

@@ -3,9 +3,10 @@ use Prim.Native.Nat.{ℕ, _<_}
 use mathlib.Core.List.{List}
 use mathlib.Core.Path.{_≡_}
 use lib.ListN.{length}
-use Rattle.record.specs.Body.{traceOf}
+use Rattle.record.specs.Body.{traceWith}
 use Rattle.job.specs.Layout.{traces}
-use Rattle.job.specs.Open.{fileRefusal, openBody}
+use Rattle.job.specs.Open.{openBody}
+use Rattle.timed_file.specs.Refusal.{timedFileRefusal}
 use Rattle.report_figures.specs.Figures.{lineOf}
 use Rattle.report_lines.specs.Lines.{lineText, headerText, lineBytes}
 
@@ -14,10 +15,10 @@ use Rattle.report_lines.specs.Lines.{lineText, headerText, lineBytes}
 pub record LinesAligned : Type 0 where
   pub header : length headerText ≡ lineBytes
   pub line :
-      (file : List ℕ) →
-      fileRefusal file ≡ 0 →
+      (file : List ℕ) (h : ℕ) →
+      timedFileRefusal file h ≡ 0 →
       (t : ℕ) →
       t < traces file →
       (deadline : ℕ) →
       deadline < 4294967296 →
-      length (lineText (lineOf t (traceOf (openBody file t)) deadline)) ≡ lineBytes
+      length (lineText (lineOf t (traceWith (openBody file t) h) deadline)) ≡ lineBytes

@@ -2,7 +2,7 @@
 ghost use mathlib.Core.Path.{_≡_};
 ghost use Prim.Native.Nat.{_<_};
 ghost use Rattle.job.specs.Layout.{traces};
-ghost use Rattle.job.specs.Open.{fileRefusal};
+ghost use Rattle.timed_file.specs.Refusal.{timedFileRefusal};
 ghost use Rattle.report_text.specs.Report.{deadlineAt, lineAt};
 use parts::body_of;
 use report_figures::Line;
@@ -22,10 +22,10 @@ fn deadline_at(deadlines: &[u32], t: u32) -> u32
     0
 }
 
-pub(crate) fn line_at(file: &[u8], deadlines: &[u32], t: u32) -> Line
-    requires { ⌜ (fileRefusal (now file) ≡ 0) × (t < traces (now file)) ⌝ }
-    ensures { λ r. ⌜ r ≡ lineAt (now (file .entry)) (now (deadlines .entry)) t ⌝ }
+pub(crate) fn line_at(file: &[u8], deadlines: &[u32], t: u32, hit_cycles: u32) -> Line
+    requires { ⌜ (timedFileRefusal (now file) «hit_cycles» ≡ 0) × (t < traces (now file)) ⌝ }
+    ensures { λ r. ⌜ r ≡ lineAt (now (file .entry)) (now (deadlines .entry)) «hit_cycles» t ⌝ }
 {
     let deadline = deadline_at(deadlines, t);
-    line_of(body_of(file, t), t, deadline)
+    line_of(body_of(file, t), t, deadline, hit_cycles)
 }

@@ -15,8 +15,9 @@ use Rattle.machine.specs.declared.State.{State}
 use Rattle.machine.proofs.Numbers.{Tri, less, equal, more, tri}
 use Rattle.machine.proofs.Finish.{all-left-is}
 use Rattle.machine.proofs.RunStates.{stateAfter, run-stops-state}
-use Rattle.record.specs.Body.{Bytes, traceOf, settledRefusal}
-use Rattle.settling.proofs.Settled.{settled-already}
+use Rattle.record.specs.Body.{Bytes, traceOf, traceWith, settledRefusal}
+use Rattle.settling.proofs.Settled.{settled-timed}
+use Rattle.record.proofs.Accepted.{settled-known}
 use Rattle.running.specs.Run.{ranFor, runAnswer}
 use Rattle.seats.specs.Inner.{stateSeated}
 use Rattle.under_way.specs.Inner.{stateBelow, Stopped}
@@ -75,14 +76,14 @@ module _ (trace : Trace) (limit : ℕ) {r : Fetched} {seats : List ℕ} (at : St
       let left = left-are ends ∙ left-is trace limit in
       λ x. record { refusal = 0; state = placed x; cycles = counted x; left = left x }
 
-module _ (body : List ℕ) (limit : ℕ) {refusal : ℕ} (e : refusal ≡ settledRefusal body) where
+module _ (body : List ℕ) (limit h : ℕ) {refusal : ℕ} (e : refusal ≡ settledRefusal body h) where
   pub run-refused
-      : {state : State} → (refusal ≡ 0 → ⊥) → state ≡ start → record { refusal = refusal; state = state; cycles = 0; left = false } ≡ runAnswer body limit
+      : {state : State} → (refusal ≡ 0 → ⊥) → state ≡ start → record { refusal = refusal; state = state; cycles = 0; left = false } ≡ runAnswer body limit h
   unfolding runAnswer
   run-refused refused p = rw (← e, p, ne-eqb _ 0 refused)
 
   -- the trace of a body that Run accepts is its own settling
-  pub run-accepted : {r : Ran} (to : Flag) → Bytes body → refusal ≡ 0 → r ≡ ranFor (settle to (traceOf body)) limit → r ≡ runAnswer body limit
+  pub run-accepted : {r : Ran} (to : Flag) → Bytes body → refusal ≡ 0 → r ≡ ranFor (settle to (traceWith body h)) limit → r ≡ runAnswer body limit h
   unfolding runAnswer
   run-accepted to b accepted p =
-      p ∙ rw (settled-already to body b (sym e ∙ accepted), ← e, accepted)
+      p ∙ rw (settled-timed to h body b (settled-known body h (sym e ∙ accepted)), ← e, accepted)

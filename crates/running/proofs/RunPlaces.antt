@@ -9,20 +9,20 @@ use Rattle.machine.specs.Time.{finish}
 use Rattle.machine.proofs.Orderly.{start-is-orderly}
 use Rattle.machine.proofs.Spots.{place-waiting}
 use Rattle.machine.proofs.RunStates.{run-places}
-use Rattle.record.specs.Body.{traceOf, settledRefusal}
+use Rattle.record.specs.Body.{traceWith, settledRefusal}
 use Rattle.running.specs.Run.{ranFor, runAnswer}
 use Rattle.running.specs.Claims.{RunGivesPlaces}
 use Rattle.running.specs.declared.running.Ran.{Ran}
 
 pub run-gives-places : RunGivesPlaces
 unfolding runAnswer ranFor after allPre
-run-gives-places body limit i l = by (eqb (settledRefusal body) 0)
+run-gives-places body limit h i l = by (eqb (settledRefusal body h) 0)
   where
     refused : Ran
-    refused = record { refusal = settledRefusal body; state = start; cycles = 0; left = false }
+    refused = record { refusal = settledRefusal body h; state = start; cycles = 0; left = false }
 
     by : (accepted : Bool) →
-        placeOf (cond accepted (ranFor (traceOf body) limit) refused .state) i
-        ≡ after (traceOf body) (cond accepted (ranFor (traceOf body) limit) refused .cycles) i
-    by true = run-places (traceOf body) (min limit (finish (traceOf body))) i l
-    by false = place-waiting (traceOf body) start (start-is-orderly (traceOf body)) i zero-le
+        placeOf (cond accepted (ranFor (traceWith body h) limit) refused .state) i
+        ≡ after (traceWith body h) (cond accepted (ranFor (traceWith body h) limit) refused .cycles) i
+    by true = run-places (traceWith body h) (min limit (finish (traceWith body h))) i l
+    by false = place-waiting (traceWith body h) start (start-is-orderly (traceWith body h)) i zero-le

@@ -7,7 +7,7 @@ use Rattle.machine.specs.Instruction.{Trace}
 use Rattle.machine.specs.Rules.{after, allLeft}
 use Rattle.machine.specs.Time.{finish}
 use Rattle.machine.specs.State.{start, stateOf}
-use Rattle.record.specs.Body.{traceOf, settledRefusal}
+use Rattle.record.specs.Body.{traceWith, settledRefusal}
 use Rattle.running.specs.declared.running.Ran.{Ran}
 
 -- "goes from the start for at most a 32-bit limit of cycles, and gives the state, the number of cycles run (the smaller of limit and finishing
@@ -22,9 +22,9 @@ ranFor trace limit =
       left = allLeft trace (after trace cycles);
     }
 
--- "10, 8, 11; a refusal returns the starting state."
-unfoldable pub runAnswer : List ℕ → ℕ → Ran
-runAnswer body limit =
-    cond (eqb (settledRefusal body) 0)
-    (ranFor (traceOf body) limit)
-    (record { refusal = settledRefusal body; state = start; cycles = 0; left = false })
+-- "10, 8, 11; a refusal returns the starting state." Document 02, F-4, has 17 after 8.
+unfoldable pub runAnswer : List ℕ → ℕ → ℕ → Ran
+runAnswer body limit h =
+    cond (eqb (settledRefusal body h) 0)
+    (ranFor (traceWith body h) limit)
+    (record { refusal = settledRefusal body h; state = start; cycles = 0; left = false })

@@ -3,7 +3,7 @@ ghost use mathlib.Core.Path.{_≡_};
 ghost use Prim.Native.Nat.{min};
 ghost use Rattle.machine.specs.Time.{settle};
 ghost use Rattle.record.specs.Rules.{flagOf};
-ghost use Rattle.record.specs.Body.{traceOf, bodyRefusal};
+ghost use Rattle.record.specs.Body.{traceWith, timedRefusal};
 ghost use Rattle.running.specs.Run.{ranFor, runAnswer};
 use acceptance::settled_refusal;
 use decode::HIT;
@@ -30,12 +30,12 @@ fn smaller(a: u32, b: u32) -> u32
 
 // The run of an accepted body whose unknown flags become the flag `to`. An inner function: a chart takes
 // its rows from it, with unknown flags as misses.
-pub fn run_settled(body: &[u8], to: u32, limit: u32) -> Ran
-    requires { ⌜ bodyRefusal (now body) ≡ 0 ⌝ }
-    ensures { λ r. ⌜ r ≡ ranFor (settle (flagOf to) (traceOf (now (body .entry)))) limit ⌝ }
+pub fn run_settled(body: &[u8], to: u32, limit: u32, hit_cycles: u32) -> Ran
+    requires { ⌜ timedRefusal (now body) «hit_cycles» ≡ 0 ⌝ }
+    ensures { λ r. ⌜ r ≡ ranFor (settle (flagOf to) (traceWith (now (body .entry)) «hit_cycles»)) limit ⌝ }
 {
     let mut seats = [0u32; SEATS];
-    let fetched = pass(body, to, limit, &mut seats);
+    let fetched = pass(body, to, limit, &mut seats, hit_cycles);
     Ran {
         refusal: 0,
         state: seated(&seats, fetched.count),
@@ -45,10 +45,10 @@ pub fn run_settled(body: &[u8], to: u32, limit: u32) -> Ran
 }
 
 // A body that Run accepts has no unknown flags, so either flag will do.
-pub fn run(body: &[u8], limit: u32) -> Ran
-    ensures { λ r. ⌜ r ≡ runAnswer (now (body .entry)) limit ⌝ }
+pub fn run(body: &[u8], limit: u32, hit_cycles: u32) -> Ran
+    ensures { λ r. ⌜ r ≡ runAnswer (now (body .entry)) limit «hit_cycles» ⌝ }
 {
-    let refusal = settled_refusal(body);
+    let refusal = settled_refusal(body, hit_cycles);
     if refusal != 0 {
         let start = State::start();
         return Ran {
@@ -58,5 +58,5 @@ pub fn run(body: &[u8], limit: u32) -> Ran
             left: false,
         };
     }
-    run_settled(body, HIT, limit)
+    run_settled(body, HIT, limit, hit_cycles)
 }

@@ -4,8 +4,9 @@ use mathlib.Core.List.{List}
 use mathlib.Core.Path.{_≡_}
 use Rattle.machine.specs.Instruction.{Flag}
 use Rattle.machine.specs.Time.{maxTime, finish, settle}
-use Rattle.record.specs.Body.{Bytes, traceOf, bodyRefusal}
+use Rattle.record.specs.Body.{Bytes, traceWith, timedRefusal}
 
 -- no accepted trace finishes later, with its unknown flags all hits or all misses
 abbrev pub FinishWithin : Type 0
-FinishWithin = (body : List ℕ) → Bytes body → bodyRefusal body ≡ 0 → (to : Flag) → finish (settle to (traceOf body)) ≤ maxTime
+FinishWithin =
+    (body : List ℕ) (h : ℕ) → Bytes body → timedRefusal body h ≡ 0 → (to : Flag) → finish (settle to (traceWith body h)) ≤ maxTime

@@ -1,8 +1,11 @@
 // All the times of an instruction, and the window after it.
 ghost use mathlib.Core.Path.{_≡_};
+ghost use Prim.Native.Nat.{_≤_};
+ghost use Rattle.machine.specs.Hits.{withHit};
 ghost use Rattle.machine.proofs.Window.{noWindow, timesFrom, slide, allLeftBy};
 ghost use Rattle.machine.proofs.WindowBounds.{TimesWithin};
 ghost use Rattle.record.specs.Rules.{instructionOf};
+ghost use Rattle.record.specs.Body.{maxHitCycles};
 ghost use Rattle.decode.specs.Inner.{AccessLawful};
 ghost use Rattle.entering.specs.Inner.{windowOf};
 ghost use Rattle.machine.specs.Time.{maxTime};
@@ -48,22 +51,22 @@ pub fn no_window() -> Window
 }
 
 // All six, each from the one before.
-pub fn times_from(w: Window, f: Fields) -> Times
-    requires { ⌜ TimesWithin maxTime (timesFrom (windowOf w) (instructionOf f)) × AccessLawful (instructionOf f) ⌝ }
-    ensures { λ r. ⌜ timesOf r ≡ timesFrom (windowOf w) (instructionOf f) ⌝ }
+pub fn times_from(w: Window, f: Fields, hit_cycles: u32) -> Times
+    requires { ⌜ TimesWithin maxTime (timesFrom (windowOf w) (withHit «hit_cycles» (instructionOf f))) × AccessLawful (instructionOf f) × («hit_cycles» ≤ maxHitCycles) ⌝ }
+    ensures { λ r. ⌜ timesOf r ≡ timesFrom (windowOf w) (withHit «hit_cycles» (instructionOf f)) ⌝ }
 {
     let at_if = enter_if(w, f);
     let at_id = enter_id(w, f, at_if);
     let at_ex = enter_ex(w, f, at_id);
     let at_mem = enter_mem(w, f, at_ex);
-    let at_last = enter_last(w, f, at_mem);
+    let at_last = enter_last(w, f, at_mem, hit_cycles);
     Times {
         IF: at_if,
         ID: at_id,
         EX: at_ex,
         MEM: at_mem,
         last: at_last,
-        post: enter_post(f, at_last),
+        post: enter_post(f, at_last, hit_cycles),
     }
 }
 

@@ -5,6 +5,7 @@
 ghost use mathlib.Core.Path.{_≡_};
 ghost use Prim.Native.Nat.{_+_, _<_, _≤_, _^_};
 ghost use lib.ListN.{length};
+ghost use Rattle.machine.specs.Hits.{withHit};
 ghost use Rattle.machine.proofs.Window.{placeAt};
 ghost use Rattle.record.specs.Rules.{instructionOf};
 ghost use Rattle.schedule.specs.Inner.{timesOf};
@@ -28,11 +29,11 @@ pub const SEATS: usize = 13;
 const COUNTS: usize = 6;
 
 // Seats instruction k, which is fetched by the limit and has not left by then.
-pub fn seat(seats: &mut [u32; SEATS], f: Fields, e: Times, limit: u32, k: u32)
+pub fn seat(seats: &mut [u32; SEATS], f: Fields, e: Times, limit: u32, k: u32, hit_cycles: u32)
     requires { ⌜ (length (now seats) ≡ 13) × (e .IF ≤ limit) × (limit < e .post) × (k + 1 < 2 ^ 32) ⌝ }
-    ensures { λ _. ⌜ Seated (now (seats .exit)) (k + 1) (stateWith (numbered (placeAt (instructionOf f) (timesOf e) limit)) k (stateSeated (now (seats .entry)) k)) ⌝ }
+    ensures { λ _. ⌜ Seated (now (seats .exit)) (k + 1) (stateWith (numbered (placeAt (withHit «hit_cycles» (instructionOf f)) (timesOf e) limit)) k (stateSeated (now (seats .entry)) k)) ⌝ }
 {
-    let p = place_at(f, e, limit);
+    let p = place_at(f, e, limit, hit_cycles);
     let at = p.stage as usize;
     seats[at] = k + 1;
     seats[COUNTS + at] = p.count;

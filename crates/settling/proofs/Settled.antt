@@ -1,4 +1,4 @@
--- Settling a trace settles each instruction, keeps its bound, and leaves a body's trace without unknown flags as it is.
+-- Settling a trace settles each instruction, and leaves a body's trace without unknown flags as it is.
 use Prim.Native.Nat.{ℕ, zero, suc, _≤_, _<_}
 use mathlib.Core.List.{List, [], _∷_}
 use mathlib.Core.Path.{_≡_, refl, sym, ap, _∙_}
@@ -6,10 +6,12 @@ use native.Mathlib.Omega.{arith}
 use lib.ListN.{length}
 use lib.Seq.{ext-getD}
 use Rattle.machine.specs.Instruction.{Flag, Trace, blank, instruction}
-use Rattle.machine.specs.Time.{bound, settleFlag, settleInstruction, settle}
+use Rattle.machine.specs.Time.{settleFlag, settleInstruction, settle}
+use Rattle.machine.specs.Hits.{withHits}
+use Rattle.machine.proofs.Hits.{settle-hits}
 use Rattle.record.specs.declared.layout.Fields.{Fields}
 use Rattle.record.specs.Rules.{flagOf, instructionOf}
-use Rattle.record.specs.Body.{Bytes, records, fieldsAt, traceOf, settledRefusal}
+use Rattle.record.specs.Body.{Bytes, records, fieldsAt, traceOf, traceWith, knownRefusal}
 use Rattle.record.proofs.Accepted.{flags-known}
 use Rattle.record.proofs.Instructions.{length-traceOf, instruction-traceOf}
 
@@ -26,11 +28,6 @@ module _ (to : Flag) where
   instruction-settle (i ∷ trace) zero = refl
   instruction-settle (i ∷ trace) (suc k) = instruction-settle trace k
 
-  pub bound-settle : (trace : Trace) → bound (settle to trace) ≡ bound trace
-  unfolding settle settleInstruction bound
-  bound-settle [] = refl
-  bound-settle (i ∷ trace) = rw (bound-settle trace)
-
   known-flag : (n : ℕ) → n ≤ 1 → settleFlag to (flagOf n) ≡ flagOf n
   unfolding settleFlag flagOf
   known-flag zero l = refl
@@ -42,7 +39,7 @@ module _ (to : Flag) where
   known-instruction f l m = rw (known-flag (f .fetch) l, known-flag (f .access) m)
 
   -- "a trace without unknown flags is its own only settling"
-  pub settled-already : (body : List ℕ) → Bytes body → settledRefusal body ≡ 0 → settle to (traceOf body) ≡ traceOf body
+  pub settled-already : (body : List ℕ) → Bytes body → knownRefusal body ≡ 0 → settle to (traceOf body) ≡ traceOf body
   settled-already body b settled =
       ext-getD blank (settle to (traceOf body)) (traceOf body) (length-settle (traceOf body)) λ k l.
       let inside : k < records body = omega (arith, length-settle (traceOf body), length-traceOf body) in
@@ -52,3 +49,7 @@ module _ (to : Flag) where
       ∙ ap (settleInstruction to) this
       ∙ known-instruction (fieldsAt body k) (known .0) (known .1)
       ∙ sym this
+
+  -- so it is with data hits that take cycles
+  pub settled-timed : (h : ℕ) (body : List ℕ) → Bytes body → knownRefusal body ≡ 0 → settle to (traceWith body h) ≡ traceWith body h
+  settled-timed h body b known = settle-hits h to (traceOf body) ∙ ap (withHits h) (settled-already body b known)

@@ -60,10 +60,10 @@ pub extern "C" fn sic_record(body: &[u8], k: u32) -> Read
 }
 
 #[no_mangle]
-pub extern "C" fn sic_worst_times(file: &[u8], times: &mut [u32]) -> WholeJob
-    ensures { λ r. ⌜ (r ≡ jobAnswer (now (file .entry)) (length (now (times .entry)))) × (now (times .exit) ≡ jobTimes (now (file .entry)) (now (times .entry))) ⌝ }
+pub extern "C" fn sic_worst_times(file: &[u8], times: &mut [u32], hit_cycles: u32) -> WholeJob
+    ensures { λ r. ⌜ (r ≡ jobAnswer (now (file .entry)) (length (now (times .entry))) «hit_cycles») × (now (times .exit) ≡ jobTimes (now (file .entry)) (now (times .entry)) «hit_cycles») ⌝ }
 {
-    whole_job::worst_times(file, times)
+    whole_job::worst_times(file, times, hit_cycles)
 }
 
 #[no_mangle]
@@ -74,8 +74,8 @@ pub extern "C" fn sic_chart(file: &[u8], out: &mut [u8]) -> usize
 }
 
 #[no_mangle]
-pub extern "C" fn sic_report(file: &[u8], deadlines: &[u32], out: &mut [u8]) -> Reported
-    ensures { λ r. ⌜ (r ≡ reportAnswer (now (file .entry)) (now (deadlines .entry)) (length (now (out .entry)))) × (now (out .exit) ≡ reportOutput (now (file .entry)) (now (deadlines .entry)) (now (out .entry))) ⌝ }
+pub extern "C" fn sic_report(file: &[u8], deadlines: &[u32], out: &mut [u8], hit_cycles: u32) -> Reported
+    ensures { λ r. ⌜ (r ≡ reportAnswer (now (file .entry)) (now (deadlines .entry)) (length (now (out .entry))) «hit_cycles») × (now (out .exit) ≡ reportOutput (now (file .entry)) (now (deadlines .entry)) (now (out .entry)) «hit_cycles») ⌝ }
 {
-    report_text::report(file, deadlines, out)
+    report_text::report(file, deadlines, out, hit_cycles)
 }

@@ -15,26 +15,26 @@ pub extern "C" fn sic_start() -> State
 }
 
 #[no_mangle]
-pub extern "C" fn sic_step(body: &[u8], s: State) -> Stepped
-    ensures { λ r. ⌜ r ≡ stepAnswer (now (body .entry)) s ⌝ }
+pub extern "C" fn sic_step(body: &[u8], s: State, hit_cycles: u32) -> Stepped
+    ensures { λ r. ⌜ r ≡ stepAnswer (now (body .entry)) s «hit_cycles» ⌝ }
 {
-    pipeline::step(body, s)
+    pipeline::step(body, s, hit_cycles)
 }
 
 // "A second form advances the state in the caller's own storage": what the step by value gives is
 // stored. On a refusal that is the given state, and the refusal's number is given.
 #[no_mangle]
-pub extern "C" fn sic_advance(s: &mut State, body: &[u8]) -> u32
-    ensures { λ r. ⌜ (r ≡ stepAnswer (now (body .entry)) (now (s .entry)) .refusal) × (now (s .exit) ≡ stepAnswer (now (body .entry)) (now (s .entry)) .state) ⌝ }
+pub extern "C" fn sic_advance(s: &mut State, body: &[u8], hit_cycles: u32) -> u32
+    ensures { λ r. ⌜ (r ≡ stepAnswer (now (body .entry)) (now (s .entry)) «hit_cycles» .refusal) × (now (s .exit) ≡ stepAnswer (now (body .entry)) (now (s .entry)) «hit_cycles» .state) ⌝ }
 {
-    let stepped = pipeline::step(body, *s);
+    let stepped = pipeline::step(body, *s, hit_cycles);
     *s = stepped.state;
     stepped.refusal
 }
 
 #[no_mangle]
-pub extern "C" fn sic_run(body: &[u8], limit: u32) -> Ran
-    ensures { λ r. ⌜ r ≡ runAnswer (now (body .entry)) limit ⌝ }
+pub extern "C" fn sic_run(body: &[u8], limit: u32, hit_cycles: u32) -> Ran
+    ensures { λ r. ⌜ r ≡ runAnswer (now (body .entry)) limit «hit_cycles» ⌝ }
 {
-    running::run(body, limit)
+    running::run(body, limit, hit_cycles)
 }

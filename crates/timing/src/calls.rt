@@ -7,8 +7,8 @@ ghost use Rattle.timing.specs.Answers.{
   marginAnswer,
   alikeAnswer,
 };
-use acceptance::body_refusal;
 use acceptance::settled_refusal;
+use acceptance::timed_refusal;
 use decode::HIT;
 use decode::MISS;
 use passing::finish_settled;
@@ -40,24 +40,24 @@ pub struct Likeness {
 }
 
 // The finishing time of a body without unknown flags.
-pub fn finish(body: &[u8]) -> Finished
-    ensures { λ r. ⌜ r ≡ finishAnswer (now (body .entry)) ⌝ }
+pub fn finish(body: &[u8], hit_cycles: u32) -> Finished
+    ensures { λ r. ⌜ r ≡ finishAnswer (now (body .entry)) «hit_cycles» ⌝ }
 {
-    let refusal = settled_refusal(body);
+    let refusal = settled_refusal(body, hit_cycles);
     if refusal != 0 {
         return Finished { refusal, time: 0 };
     }
     Finished {
         refusal: 0,
-        time: finish_settled(body, HIT),
+        time: finish_settled(body, HIT, hit_cycles),
     }
 }
 
 // The least and the greatest finishing time of all settlings.
-pub fn best_worst(body: &[u8]) -> BestAndWorst
-    ensures { λ r. ⌜ r ≡ bestWorstAnswer (now (body .entry)) ⌝ }
+pub fn best_worst(body: &[u8], hit_cycles: u32) -> BestAndWorst
+    ensures { λ r. ⌜ r ≡ bestWorstAnswer (now (body .entry)) «hit_cycles» ⌝ }
 {
-    let refusal = body_refusal(body);
+    let refusal = timed_refusal(body, hit_cycles);
     if refusal != 0 {
         return BestAndWorst {
             refusal,
@@ -67,8 +67,8 @@ pub fn best_worst(body: &[u8]) -> BestAndWorst
     }
     BestAndWorst {
         refusal: 0,
-        best: finish_settled(body, HIT),
-        worst: finish_settled(body, MISS),
+        best: finish_settled(body, HIT, hit_cycles),
+        worst: finish_settled(body, MISS, hit_cycles),
     }
 }
 
@@ -79,14 +79,14 @@ fn difference(a: u32, b: u32) -> i64
 }
 
 // The deadline minus the worst time.
-pub fn margin(body: &[u8], deadline: u32) -> DeadlineMargin
-    ensures { λ r. ⌜ r ≡ marginAnswer (now (body .entry)) deadline ⌝ }
+pub fn margin(body: &[u8], deadline: u32, hit_cycles: u32) -> DeadlineMargin
+    ensures { λ r. ⌜ r ≡ marginAnswer (now (body .entry)) deadline «hit_cycles» ⌝ }
 {
-    let refusal = body_refusal(body);
+    let refusal = timed_refusal(body, hit_cycles);
     if refusal != 0 {
         return DeadlineMargin { refusal, margin: 0 };
     }
-    let worst = finish_settled(body, MISS);
+    let worst = finish_settled(body, MISS, hit_cycles);
     DeadlineMargin {
         refusal: 0,
         margin: difference(deadline, worst),
@@ -94,25 +94,25 @@ pub fn margin(body: &[u8], deadline: u32) -> DeadlineMargin
 }
 
 // Whether two bodies without unknown flags have equal finishing times.
-pub fn alike(first: &[u8], second: &[u8]) -> Likeness
-    ensures { λ r. ⌜ r ≡ alikeAnswer (now (first .entry)) (now (second .entry)) ⌝ }
+pub fn alike(first: &[u8], second: &[u8], hit_cycles: u32) -> Likeness
+    ensures { λ r. ⌜ r ≡ alikeAnswer (now (first .entry)) (now (second .entry)) «hit_cycles» ⌝ }
 {
-    let of_first = settled_refusal(first);
+    let of_first = settled_refusal(first, hit_cycles);
     if of_first != 0 {
         return Likeness {
             refusal: of_first,
             alike: false,
         };
     }
-    let of_second = settled_refusal(second);
+    let of_second = settled_refusal(second, hit_cycles);
     if of_second != 0 {
         return Likeness {
             refusal: of_second,
             alike: false,
         };
     }
-    let time1 = finish_settled(first, HIT);
-    let time2 = finish_settled(second, HIT);
+    let time1 = finish_settled(first, HIT, hit_cycles);
+    let time2 = finish_settled(second, HIT, hit_cycles);
     Likeness {
         refusal: 0,
         alike: time1 == time2,

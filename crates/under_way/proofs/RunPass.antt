@@ -15,7 +15,7 @@ use Rattle.machine.specs.Time.{settle}
 use Rattle.machine.proofs.Window.{Times, slide, windowBefore, timesFrom, enterID, enterEX, enterMEM, enterLast, enterPost, timesAt, placeAt, allLeftBy}
 use Rattle.machine.proofs.WindowPlaces.{window-place}
 use Rattle.machine.proofs.WindowTimes.{window-slides}
-use Rattle.record.specs.Body.{records, traceOf}
+use Rattle.record.specs.Body.{records, traceOf, traceWith}
 use Rattle.record.proofs.Accepted.{and-true}
 use Rattle.places.specs.Inner.{numbered}
 use Rattle.entering.specs.Inner.{windowOf}
@@ -30,15 +30,15 @@ use Rattle.under_way.specs.Inner.{Passed, Stopped}
 use Rattle.under_way.proofs.RunState.{state-starts, state-grows}
 
 -- what the loop's test tells
-module _ (body : List ℕ) (to : Flag) (limit : ℕ) (r : Reached) {n : ℕ} (counted : n ≡ records body) where
-  pub is-fetched : (ltb (r .k) n && leb (r .times .IF) limit) ≡ true → (r .k < length (settle to (traceOf body))) × (r .times .IF ≤ limit)
+module _ (body : List ℕ) (h : ℕ) (to : Flag) (limit : ℕ) (r : Reached) {n : ℕ} (counted : n ≡ records body) where
+  pub is-fetched : (ltb (r .k) n && leb (r .times .IF) limit) ≡ true → (r .k < length (settle to (traceWith body h))) × (r .times .IF ≤ limit)
   is-fetched e =
       let both = and-true (ltb (r .k) n) (leb (r .times .IF) limit) e in
-      (omega (arith, counted, length-settled body to, ltb-true (r .k) n (both .0)), leb-true _ _ (both .1))
+      (omega (arith, counted, length-settled body h to, ltb-true (r .k) n (both .0)), leb-true _ _ (both .1))
 
-  pub not-fetched : (ltb (r .k) n && leb (r .times .IF) limit) ≡ false → r .k < length (settle to (traceOf body)) → limit < r .times .IF
+  pub not-fetched : (ltb (r .k) n && leb (r .times .IF) limit) ≡ false → r .k < length (settle to (traceWith body h)) → limit < r .times .IF
   not-fetched e l =
-      leb-false _ _ (subst (λ (b : Bool). (b && leb (r .times .IF) limit) ≡ false) (lt-ltb (r .k) n (omega (arith, counted, length-settled body to))) e)
+      leb-false _ _ (subst (λ (b : Bool). (b && leb (r .times .IF) limit) ≡ false) (lt-ltb (r .k) n (omega (arith, counted, length-settled body h to))) e)
 
 -- an instruction has left when all so far have
 left-by-all : (trace : Trace) (k : ℕ) → timesAt trace k .post ≤ allLeftBy (windowBefore trace (k + 1))

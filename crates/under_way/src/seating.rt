@@ -5,7 +5,7 @@ ghost use mathlib.Core.Path.{_≡_};
 ghost use lib.ListN.{replicate};
 ghost use Rattle.machine.specs.Time.{settle};
 ghost use Rattle.record.specs.Rules.{flagOf};
-ghost use Rattle.record.specs.Body.{traceOf, bodyRefusal};
+ghost use Rattle.record.specs.Body.{traceWith, timedRefusal};
 ghost use Rattle.under_way.specs.Inner.{Stopped};
 use passing::skip_left;
 use record::count;
@@ -24,16 +24,16 @@ pub struct Fetched {
 
 // The pass over an accepted body whose unknown flags become the flag `to`: it seats the instructions
 // that are under way at the limit, and ends with the first that is not fetched by then.
-pub fn pass(body: &[u8], to: u32, limit: u32, seats: &mut [u32; SEATS]) -> Fetched
-    requires { ⌜ (bodyRefusal (now body) ≡ 0) × (now seats ≡ replicate 13 0) ⌝ }
-    ensures { λ r. ⌜ Stopped (settle (flagOf to) (traceOf (now (body .entry)))) limit r (now (seats .exit)) ⌝ }
+pub fn pass(body: &[u8], to: u32, limit: u32, seats: &mut [u32; SEATS], hit_cycles: u32) -> Fetched
+    requires { ⌜ (timedRefusal (now body) «hit_cycles» ≡ 0) × (now seats ≡ replicate 13 0) ⌝ }
+    ensures { λ r. ⌜ Stopped (settle (flagOf to) (traceWith (now (body .entry)) «hit_cycles»)) limit r (now (seats .exit)) ⌝ }
 {
     let records = count(body);
-    let mut next = skip_left(body, to, limit, 0, no_window());
+    let mut next = skip_left(body, to, limit, 0, no_window(), hit_cycles);
     while (next.k < records) & (next.times.IF <= limit) {
         let f = settled_at(body, to, next.k);
-        seat(seats, f, next.times, limit, next.k);
-        next = skip_left(body, to, limit, next.k + 1, next.window);
+        seat(seats, f, next.times, limit, next.k, hit_cycles);
+        next = skip_left(body, to, limit, next.k + 1, next.window, hit_cycles);
     }
     Fetched {
         count: next.k,

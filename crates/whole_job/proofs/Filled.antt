@@ -6,12 +6,12 @@ use lib.ListN.{length, drop, getD, set}
 use lib.Seq.{drop-cons, set-at, append-snoc}
 use Rattle.machine.specs.Time.{finish, settle}
 use Rattle.record.specs.Rules.{flagOf}
-use Rattle.record.specs.Body.{firsts, traceOf, bodyRefusal}
+use Rattle.record.specs.Body.{firsts, traceWith}
 use Rattle.record.proofs.Instructions.{length-firsts}
 use Rattle.job.specs.Layout.{traces}
-use Rattle.job.specs.Open.{fileRefusal, openBody}
-use Rattle.job.proofs.Accepted.{open-accepted}
-use Rattle.job.proofs.Part.{opened-accepted}
+use Rattle.job.specs.Open.{openBody}
+use Rattle.timed_file.specs.Refusal.{timedFileRefusal}
+use Rattle.timed_file.proofs.Hits.{body-timed}
 use Rattle.timing.specs.declared.calls.BestAndWorst.{BestAndWorst}
 use Rattle.timing.proofs.Answered.{best-worst-given}
 use Rattle.whole_job.specs.Answers.{timedAlone}
@@ -24,15 +24,12 @@ one-more f times t inside =
     ∙ set-at (firsts f t) (getD times t 0) (drop (suc t) times) (f t) t (length-firsts f t)
     ∙ sym (append-snoc (firsts f t) (f t) (drop (suc t) times))
 
-module _ (file : List ℕ) (accepted : fileRefusal file ≡ 0) (t : ℕ) (inside : t < traces file) where
-  -- the body that Open hands back is one that the pass takes
-  pub body-accepted : bodyRefusal (openBody file t) ≡ 0
-  body-accepted = opened-accepted file t (open-accepted file t accepted inside)
-
-  -- the pass over it with misses gives the worst time
-  pub passed-alone : {body : List ℕ} {time : ℕ} → body ≡ openBody file t → time ≡ finish (settle (flagOf 1) (traceOf body)) → time ≡ timedAlone file t
+-- the pass with misses over the body that Open hands back gives the worst time
+module _ (file : List ℕ) (h : ℕ) (passes : timedFileRefusal file h ≡ 0) (t : ℕ) (inside : t < traces file) where
+  pub passed-alone :
+      {body : List ℕ} {time : ℕ} → body ≡ openBody file t → time ≡ finish (settle (flagOf 1) (traceWith body h)) → time ≡ timedAlone file h t
   unfolding timedAlone
   passed-alone e p =
       ap
       (λ (answer : BestAndWorst). answer .worst)
-      (best-worst-given (openBody file t) body-accepted refl (p ∙ ap (λ (b : List ℕ). finish (settle (flagOf 1) (traceOf b))) e))
+      (best-worst-given (openBody file t) h (body-timed file h passes t inside) refl (p ∙ ap (λ (b : List ℕ). finish (settle (flagOf 1) (traceWith b h))) e))

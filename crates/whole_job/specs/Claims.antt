@@ -9,15 +9,15 @@ use Rattle.timing.specs.Answers.{bestWorstAnswer}
 use Rattle.whole_job.specs.Answers.{jobRefusal, jobTimes}
 
 -- After a call that is not refused. That trace t is opened and timed without a refusal is part of it: no time stands for one that was declined.
-pub record Filled (file times : List ℕ) : Type 0 where
+pub record Filled (file times : List ℕ) (h : ℕ) : Type 0 where
   pub room : traces file ≤ length times
   pub opened : (t : ℕ) → t < traces file → openRefusal file t ≡ 0
-  pub timed : (t : ℕ) → t < traces file → bestWorstAnswer (openBody file t) .refusal ≡ 0
-  pub first : (t : ℕ) → t < traces file → getD (jobTimes file times) t 0 ≡ bestWorstAnswer (openBody file t) .worst
-  pub rest : (p : ℕ) → traces file ≤ p → getD (jobTimes file times) p 0 ≡ getD times p 0
+  pub timed : (t : ℕ) → t < traces file → bestWorstAnswer (openBody file t) h .refusal ≡ 0
+  pub first : (t : ℕ) → t < traces file → getD (jobTimes file times h) t 0 ≡ bestWorstAnswer (openBody file t) h .worst
+  pub rest : (p : ℕ) → traces file ≤ p → getD (jobTimes file times h) p 0 ≡ getD times p 0
 
--- For every file and every list: the list is as long as it was; a refused call alters no place of it, any other fills it.
+-- For every file, every list and every h: the list is as long as it was; a refused call alters no place of it, any other fills it.
 pub record PlaceByPlace : Type 0 where
-  pub long : (file times : List ℕ) → length (jobTimes file times) ≡ length times
-  pub refused : (file times : List ℕ) → (jobRefusal file (length times) ≡ 0 → ⊥) → jobTimes file times ≡ times
-  pub filled : (file times : List ℕ) → jobRefusal file (length times) ≡ 0 → Filled file times
+  pub long : (file times : List ℕ) (h : ℕ) → length (jobTimes file times h) ≡ length times
+  pub refused : (file times : List ℕ) (h : ℕ) → (jobRefusal file (length times) h ≡ 0 → ⊥) → jobTimes file times h ≡ times
+  pub filled : (file times : List ℕ) (h : ℕ) → jobRefusal file (length times) h ≡ 0 → Filled file times h

@@ -4,8 +4,8 @@ ghost use lib.ListN.{length};
 ghost use Rattle.whole_job.specs.Answers.{jobRefusal, jobAnswer, jobTimes};
 use crate::filling::put_times;
 use crate::refusal::SHORT_LIST;
-use job::file_refusal;
 use little_endian::half;
+use timed_file::timed_file_refusal;
 
 // `traces` is how many the file has, and so how many places of the list are filled.
 #[repr(C)]
@@ -14,11 +14,11 @@ pub struct WholeJob {
     pub traces: u32,
 }
 
-// 1 to 8 as Open gives them, then 16, for a list of so many places.
-fn job_refusal(file: &[u8], places: usize) -> u32
-    ensures { λ r. ⌜ r ≡ jobRefusal (now (file .entry)) places ⌝ }
+// 1 to 8 as Open gives them, then 17, then 16, for a list of so many places.
+fn job_refusal(file: &[u8], places: usize, hit_cycles: u32) -> u32
+    ensures { λ r. ⌜ r ≡ jobRefusal (now (file .entry)) places «hit_cycles» ⌝ }
 {
-    let declined = file_refusal(file);
+    let declined = timed_file_refusal(file, hit_cycles);
     if declined != 0 {
         return declined;
     }
@@ -31,14 +31,14 @@ fn job_refusal(file: &[u8], places: usize) -> u32
 
 // The worst time of each trace, in the first places of the list, in the traces' order; the others keep
 // their values.
-pub fn worst_times(file: &[u8], times: &mut [u32]) -> WholeJob
-    ensures { λ r. ⌜ (r ≡ jobAnswer (now (file .entry)) (length (now (times .entry)))) × (now (times .exit) ≡ jobTimes (now (file .entry)) (now (times .entry))) ⌝ }
+pub fn worst_times(file: &[u8], times: &mut [u32], hit_cycles: u32) -> WholeJob
+    ensures { λ r. ⌜ (r ≡ jobAnswer (now (file .entry)) (length (now (times .entry))) «hit_cycles») × (now (times .exit) ≡ jobTimes (now (file .entry)) (now (times .entry)) «hit_cycles») ⌝ }
 {
-    let refusal = job_refusal(file, times.len());
+    let refusal = job_refusal(file, times.len(), hit_cycles);
     if refusal != 0 {
         return WholeJob { refusal, traces: 0 };
     }
     let traces = half(file, 0);
-    put_times(file, times, traces);
+    put_times(file, times, traces, hit_cycles);
     WholeJob { refusal: 0, traces }
 }

@@ -14,9 +14,9 @@ pub fn accesses(trace: &[Instruction]) -> u32 {
     counted(trace).len() as u32
 }
 
-/// 10, 8, 15, or 0.
-pub fn refusal(body: &[u8], wait: u16) -> u32 {
-    match body_refusal(body) {
+/// 10, 8, 17, 15, or 0.
+pub fn refusal(body: &[u8], wait: u16, hit_cycles: u32) -> u32 {
+    match timed_refusal(body, hit_cycles) {
         0 if counted(&decode(body)).iter().any(|latency| latency + wait as u32 > 65535) => 15,
         n => n,
     }

@@ -91,9 +91,28 @@ pub fn body_refusal(body: &[u8]) -> u32 {
     }
 }
 
-/// 10, 8, 11, or 0.
-pub fn settled_refusal(body: &[u8]) -> u32 {
+/// 17, or 0, for the records of a body or of several: "h above 15, or a load or store whose data latency is not above h", whatever
+/// its flag (document 02).
+pub fn hit_refusal(records: &[u8], hit_cycles: u32) -> u32 {
+    let too_short = |i: &Instruction| (i.kind == LOAD || i.kind == STORE) && i.data_latency as u32 <= hit_cycles;
+    if hit_cycles > 15 || decode(records).iter().any(too_short) {
+        17
+    } else {
+        0
+    }
+}
+
+/// 10, 8, 17, or 0.
+pub fn timed_refusal(body: &[u8], hit_cycles: u32) -> u32 {
     match body_refusal(body) {
+        0 => hit_refusal(body, hit_cycles),
+        n => n,
+    }
+}
+
+/// 10, 8, 17, 11, or 0.
+pub fn settled_refusal(body: &[u8], hit_cycles: u32) -> u32 {
+    match timed_refusal(body, hit_cycles) {
         0 if decode(body).iter().any(|i| i.fetch == UNKNOWN || i.access == UNKNOWN) => 11,
         n => n,
     }
@@ -138,12 +157,15 @@ fn next(i: &Instruction, stage: Stage) -> Stage {
     }
 }
 
-fn entry(i: &Instruction, stage: Stage) -> u32 {
+/// Document 01's counts on entry, and document 02's: "the count on entry to MEM for a load hit, and to ST for a store hit, becomes h".
+fn entry(i: &Instruction, stage: Stage, hit_cycles: u32) -> u32 {
     match stage {
         If if i.fetch == MISS => i.fetch_latency as u32,
         Ex => i.execution as u32,
         Mem if i.kind == LOAD && i.access == MISS => i.data_latency as u32,
+        Mem if i.kind == LOAD => hit_cycles,
         St if i.access == MISS => i.data_latency as u32 - 1,
+        St => hit_cycles,
         _ => 0,
     }
 }
@@ -186,13 +208,13 @@ impl Moving<'_> {
     }
 }
 
-pub fn cycle(trace: &[Instruction], places: &[Place]) -> Vec<Place> {
+pub fn cycle(trace: &[Instruction], places: &[Place], hit_cycles: u32) -> Vec<Place> {
     let mut moving = Moving { trace, places, known: vec![None; trace.len()] };
     let on = |i: usize| {
         let p = places[i];
         if moving.moves(i) {
             let stage = next(&trace[i], p.stage);
-            Place { stage, count: entry(&trace[i], stage) }
+            Place { stage, count: entry(&trace[i], stage, hit_cycles) }
         } else {
             Place { stage: p.stage, count: p.count.saturating_sub(1) }
         }
@@ -235,11 +257,11 @@ pub fn places_of(trace: &[Instruction], s: &Slots) -> Vec<Place> {
 }
 
 /// Document 01's sentence on orderly states; its clause on empty slots is left out, since an empty slot has no index or count here.
-pub fn orderly(trace: &[Instruction], s: &Slots) -> bool {
+pub fn orderly(trace: &[Instruction], s: &Slots, hit_cycles: u32) -> bool {
     if s.fetched > trace.len() || s.held.iter().flatten().any(|h| h.0 >= trace.len()) {
         return false;
     }
-    let within = |at: usize, (i, count): (usize, u32)| count <= entry(&trace[i], SLOTS[at]);
+    let within = |at: usize, (i, count): (usize, u32)| count <= entry(&trace[i], SLOTS[at], hit_cycles);
     let young: Vec<usize> = s.held[..4].iter().flatten().map(|h| h.0).collect();
     let m = young.len();
     m <= s.fetched
@@ -250,20 +272,20 @@ pub fn orderly(trace: &[Instruction], s: &Slots) -> bool {
 }
 
 /// Every row from the start to the first after which all have left.
-pub fn rows(trace: &[Instruction]) -> Vec<Vec<Place>> {
+pub fn rows(trace: &[Instruction], hit_cycles: u32) -> Vec<Vec<Place>> {
     let mut rows = vec![start(trace)];
     while !all_left(rows.last().unwrap()) {
-        let row = cycle(trace, rows.last().unwrap());
+        let row = cycle(trace, rows.last().unwrap(), hit_cycles);
         rows.push(row);
     }
     rows
 }
 
-pub fn finish(trace: &[Instruction]) -> u32 {
+pub fn finish(trace: &[Instruction], hit_cycles: u32) -> u32 {
     let mut places = start(trace);
     let mut cycles = 0;
     while !all_left(&places) {
-        places = cycle(trace, &places);
+        places = cycle(trace, &places, hit_cycles);
         cycles += 1;
     }
     cycles
@@ -287,8 +309,8 @@ pub fn settle(trace: &[Instruction], mut choice: u32) -> Vec<Instruction> {
 }
 
 /// The finishing time of each settling, run cycle after cycle.
-pub fn settling_times(trace: &[Instruction]) -> Vec<u32> {
-    (0..1 << unknowns(trace)).map(|choice| finish(&settle(trace, choice))).collect()
+pub fn settling_times(trace: &[Instruction], hit_cycles: u32) -> Vec<u32> {
+    (0..1 << unknowns(trace)).map(|choice| finish(&settle(trace, choice), hit_cycles)).collect()
 }
 
 /// What Open answers: the refusal, and where the body is.

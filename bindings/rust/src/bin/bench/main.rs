@@ -16,6 +16,14 @@ const SHORT: usize = 12;
 const RANDOM: usize = 16 * N;
 /// Step checks its whole body in each cycle, so that a few cycles of a long trace tell its cost.
 const STEPS: u32 = 16;
+/// The cycles of a data hit in the row that has any.
+const HIT_CYCLES: u32 = 3;
+
+/// Data hits take no cycles in the other rows. Neither side is told so before it runs, since the Rust would be compiled for that
+/// number alone.
+fn none() -> u32 {
+    black_box(0)
+}
 
 fn line(call: &str, trace: &str, (ours, rust): (f64, f64), cycles: Option<f64>) {
     let simulator = cycles.map_or("".into(), |t| format!("{:.0}", t / ours));
@@ -56,26 +64,36 @@ fn checks(trace: &str, bodies: &[&[u8]]) {
     line("body check", trace, check, None);
 }
 
+/// What going cycle after cycle to the end takes.
+fn cycle_after_cycle(bodies: &[&[u8]], hit_cycles: u32) -> f64 {
+    simulated(bodies, |b| {
+        let (state, cycles) = natural::simulate(b, u32::MAX, hit_cycles);
+        assert_eq!((Ok(cycles), Ok(state)), (sic::finish(b, hit_cycles), sic::run(b, u32::MAX, hit_cycles).map(|r| r.state)));
+    })
+}
+
+fn finish(trace: &str, bodies: &[&[u8]], hit_cycles: u32, slow: f64) {
+    let opaque = || black_box(hit_cycles);
+    let finish = race_each(bodies, |b| number(sic::finish(b, opaque())), |b| natural::finish(b, opaque()));
+    line("Finish", trace, finish, Some(slow));
+}
+
 /// Finish, and Run to the end, which is the longest way, and half way there.
 fn ends(trace: &str, bodies: &[&[u8]]) {
-    let finish = race_each(bodies, |b| number(sic::finish(b)), |b| natural::finish(b));
+    let slow = cycle_after_cycle(bodies, none());
+    finish(trace, bodies, 0, slow);
     let whole = |r: sic::Ran| (r.state, r.cycles, r.left);
-    let run = race_each(bodies, |b| number(sic::run(b, u32::MAX).map(whole)), |b| natural::run(b, u32::MAX));
-    let limits: Vec<(&[u8], u32)> = bodies.iter().map(|&b| (b, sic::finish(b).unwrap() / 2)).collect();
-    let half = race_each(&limits, |&(b, limit)| number(sic::run(b, limit).map(whole)), |&(b, limit)| natural::run(b, limit));
-    let slow = simulated(bodies, |b| {
-        let (state, cycles) = natural::simulate(b, u32::MAX);
-        assert_eq!((Ok(cycles), Ok(state)), (sic::finish(b), sic::run(b, u32::MAX).map(|r| r.state)));
-    });
-    line("Finish", trace, finish, Some(slow));
+    let run = race_each(bodies, |b| number(sic::run(b, u32::MAX, none()).map(whole)), |b| natural::run(b, u32::MAX, none()));
+    let limits: Vec<(&[u8], u32)> = bodies.iter().map(|&b| (b, sic::finish(b, 0).unwrap() / 2)).collect();
+    let half = race_each(&limits, |&(b, limit)| number(sic::run(b, limit, none()).map(whole)), |&(b, limit)| natural::run(b, limit, none()));
     line("Run", trace, run, Some(slow));
     line("Run, half way", trace, half, Some(slow / 2.0));
 }
 
 fn bounds(trace: &str, bodies: &[&[u8]]) {
     let pair = |t: sic::BestAndWorst| (t.best, t.worst);
-    let times = race_each(bodies, |b| number(sic::best_worst(b).map(pair)), |b| natural::best_worst(b));
-    let slow = simulated(bodies, |b| assert_eq!(Ok(natural::best_worst_by_cycles(b)), sic::best_worst(b).map(pair)));
+    let times = race_each(bodies, |b| number(sic::best_worst(b, none()).map(pair)), |b| natural::best_worst(b, none()));
+    let slow = simulated(bodies, |b| assert_eq!(Ok(natural::best_worst_by_cycles(b, none())), sic::best_worst(b, none()).map(pair)));
     line("Best and worst", trace, times, Some(slow));
 }
 
@@ -87,33 +105,34 @@ fn longest_wait(body: &[u8]) -> u16 {
 
 /// Margin, and the time on a shared bus, which also counts accesses.
 fn worst_times(trace: &str, bodies: &[&[u8]]) {
-    let margin = race_each(bodies, |b| number(sic::margin(b, 1000)), |b| natural::margin(b, 1000));
+    let margin = race_each(bodies, |b| number(sic::margin(b, 1000, none())), |b| natural::margin(b, 1000, none()));
     line("Margin", trace, margin, None);
     let waits: Vec<(&[u8], u16)> = bodies.iter().map(|&b| (b, longest_wait(b))).collect();
     let pair = |t: sic::TimeOnBus| (t.accesses, t.time);
-    let bus = race_each(&waits, |&(b, wait)| number(sic::bus_time(b, wait).map(pair)), |&(b, wait)| natural::bus_time(b, wait));
+    let ours = |&(b, wait): &(&[u8], u16)| number(sic::bus_time(b, wait, none()).map(pair));
+    let bus = race_each(&waits, ours, |&(b, wait)| natural::bus_time(b, wait, none()));
     line("Bus time", trace, bus, None);
 }
 
 /// A state, and how many cycles are run from it: a short trace whole, a long one in its middle.
 fn stretch(body: &[u8]) -> (&[u8], sic::State, u32) {
-    let finish = sic::finish(body).unwrap();
+    let finish = sic::finish(body, 0).unwrap();
     if body.len() <= SHORT * sic::RECORD_SIZE {
         return (body, sic::State::start(), finish);
     }
-    (body, sic::run(body, finish / 2).unwrap().state, STEPS)
+    (body, sic::run(body, finish / 2, 0).unwrap().state, STEPS)
 }
 
 fn in_place(body: &[u8], mut state: sic::State, cycles: u32) -> sic::State {
     for _ in 0..cycles {
-        state.advance(black_box(body)).unwrap();
+        state.advance(black_box(body), none()).unwrap();
     }
     state
 }
 
 /// Step by value as C calls it.
 fn by_value(body: &[u8], state: sic::State) -> sic::State {
-    let stepped = unsafe { sic::raw::sic_step(body.as_ptr(), body.len(), state) };
+    let stepped = unsafe { sic::raw::sic_step(body.as_ptr(), body.len(), state, none()) };
     assert_eq!(stepped.refusal, 0);
     stepped.state
 }
@@ -123,12 +142,12 @@ fn steps(trace: &str, bodies: &[&[u8]]) {
     type Stretch<'a> = (&'a [u8], sic::State, u32);
     let stretches: Vec<Stretch> = bodies.iter().map(|b| stretch(b)).collect();
     let cycles = stretches.iter().map(|s| s.2 as f64).sum::<f64>() / bodies.len() as f64;
-    let rust = |&(body, from, cycles): &Stretch| (0..cycles).fold(from, |s, _| natural::step(black_box(body), &s).unwrap());
+    let rust = |&(body, from, cycles): &Stretch| (0..cycles).fold(from, |s, _| natural::step(black_box(body), &s, none()).unwrap());
     let cycle = |call: &str, ours: &dyn Fn(&Stretch) -> sic::State| {
         let (a, b) = race_each(&stretches, ours, rust);
         line(call, trace, (a / cycles, b / cycles), None);
     };
-    cycle("Step, a cycle", &|&(body, from, cycles)| (0..cycles).fold(from, |s, _| sic::step(black_box(body), s).unwrap()));
+    cycle("Step, a cycle", &|&(body, from, cycles)| (0..cycles).fold(from, |s, _| sic::step(black_box(body), s, none()).unwrap()));
     cycle("Step in place, a cycle", &|&(body, from, cycles)| in_place(body, from, cycles));
     cycle("Step from C, a cycle", &|&(body, from, cycles)| (0..cycles).fold(from, |s, _| by_value(black_box(body), s)));
 }
@@ -149,7 +168,15 @@ fn calls(trace: &str, known: &[u8], any: &[u8], instructions: usize) {
 }
 
 fn random_calls(trace: &str, most: u64, instructions: usize) {
-    calls(trace, &traces::random(RANDOM, most, 2), &traces::random(RANDOM, most, 3), instructions);
+    calls(trace, &traces::random(RANDOM, most, 2, 0), &traces::random(RANDOM, most, 3, 0), instructions);
+}
+
+/// Finish where data hits take cycles, on the first trace of the table with longer data latencies.
+fn slow_hits() {
+    let records = traces::random(RANDOM, 8, 2, HIT_CYCLES);
+    let bodies = bodies_of(&records, N);
+    let trace = format!("random, latencies to 8, data hits of {HIT_CYCLES}");
+    finish(&trace, &bodies, HIT_CYCLES, cycle_after_cycle(&bodies, HIT_CYCLES));
 }
 
 /// What is in a list that is long enough for any job, once its places are filled.
@@ -172,12 +199,12 @@ fn each_alone(file: &[u8], traces: usize, worst: impl Fn(&[u8]) -> u32) -> [u32;
 /// Random jobs of so many traces of so many instructions: in one call, beside the same in Rust, and beside each trace alone,
 /// its worst time taken from Best and worst, or from Margin, which passes over the body once.
 fn whole_jobs(count: usize, instructions: usize) {
-    let records = traces::random(RANDOM, 8, 3);
+    let records = traces::random(RANDOM, 8, 3, 0);
     let files: Vec<Vec<u8>> = bodies_of(&records, count * instructions).iter().map(|r| file_of(count, r)).collect();
-    let one_call = |f: &Vec<u8>| filled(|times| sic::worst_times(f, times));
-    let (ours, rust) = race_each(&files, one_call, |f| filled(|times| natural::worst_times(f, times)));
-    let by_best_worst = race_each(&files, one_call, |f| each_alone(f, count, |b| sic::best_worst(b).unwrap().worst));
-    let by_margin = race_each(&files, one_call, |f| each_alone(f, count, |b| -sic::margin(b, 0).unwrap() as u32));
+    let one_call = |f: &Vec<u8>| filled(|times| sic::worst_times(f, times, none()));
+    let (ours, rust) = race_each(&files, one_call, |f| filled(|times| natural::worst_times(f, times, none())));
+    let by_best_worst = race_each(&files, one_call, |f| each_alone(f, count, |b| sic::best_worst(b, none()).unwrap().worst));
+    let by_margin = race_each(&files, one_call, |f| each_alone(f, count, |b| -sic::margin(b, 0, none()).unwrap() as u32));
     let alone = |(one, each): (f64, f64)| format!("{:.2} us | {:.1}", each / 1e3, each / one);
     println!("| {count} | {instructions} | {:.2} us | {:.2} | {} | {} |", ours / 1e3, ours / rust, alone(by_best_worst), alone(by_margin));
 }
@@ -190,11 +217,11 @@ fn each_instruction<T>(bodies: &[&[u8]], f: impl Fn(&[u8]) -> T) -> f64 {
 
 /// What an instruction costs in random traces of n instructions each.
 fn growth(n: usize, most: u64) {
-    let (known, any) = (traces::random(RANDOM, most, 2), traces::random(RANDOM, most, 3));
+    let (known, any) = (traces::random(RANDOM, most, 2, 0), traces::random(RANDOM, most, 3, 0));
     let (known, any) = (bodies_of(&known, n), bodies_of(&any, n));
-    let finish = each_instruction(&known, sic::finish);
-    let run = each_instruction(&known, |b| sic::run(b, u32::MAX));
-    let times = each_instruction(&any, sic::best_worst);
+    let finish = each_instruction(&known, |b| sic::finish(b, none()));
+    let run = each_instruction(&known, |b| sic::run(b, u32::MAX, none()));
+    let times = each_instruction(&any, |b| sic::best_worst(b, none()));
     println!("| {} | {n} | {most} | {finish:.1} ns | {run:.1} ns | {times:.1} ns |", known.len());
 }
 
@@ -205,6 +232,7 @@ fn main() {
     random_calls("random, 12 instructions", 8, SHORT);
     calls("plain", &traces::plain(N), &traces::plain(N), N);
     calls("the longest", &traces::longest(), &traces::longest(), N);
+    slow_hits();
     println!("\n| random traces | instructions in each | latencies to | Finish, an instruction | Run | Best and worst |\n|---|---|---|---|---|---|");
     for n in [16, 64, 256, 1024, N] {
         growth(n, 8);

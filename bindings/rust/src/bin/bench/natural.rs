@@ -18,6 +18,8 @@ struct Instruction {
     data_latency: u32,
 }
 
+/// Always inlined: left to the compiler it is called in some loops, and Rust takes up to twice as long.
+#[inline(always)]
 fn read(b: &[u8]) -> Instruction {
     Instruction {
         kind: b[0],
@@ -46,19 +48,19 @@ impl Instruction {
         }
     }
 
-    fn in_mem(&self) -> u32 {
-        if self.kind == LOAD && self.access == 1 {
-            self.data_latency
-        } else {
-            0
+    fn in_mem(&self, hit_cycles: u32) -> u32 {
+        match (self.kind, self.access) {
+            (LOAD, 1) => self.data_latency,
+            (LOAD, _) => hit_cycles,
+            _ => 0,
         }
     }
 
-    fn in_last(&self) -> u32 {
-        if self.kind == STORE && self.access == 1 {
-            self.data_latency - 1
-        } else {
-            0
+    fn in_last(&self, hit_cycles: u32) -> u32 {
+        match (self.kind, self.access) {
+            (STORE, 1) => self.data_latency - 1,
+            (STORE, _) => hit_cycles,
+            _ => 0,
         }
     }
 
@@ -83,34 +85,59 @@ fn broken(b: &[u8]) -> bool {
         | (memory == (i.data_latency == 0))
 }
 
+/// Of a record that keeps the rules: a load or store, which alone have a data latency above 0, whose latency is not above that of a hit.
+fn too_short(b: &[u8], hit_cycles: u32) -> bool {
+    (1..=hit_cycles).contains(&read(b).data_latency)
+}
+
 fn wrong_length(body: &[u8]) -> bool {
     body.len() % 10 != 0 || body.len() / 10 > 4096
 }
 
-fn refusal(body: &[u8]) -> u32 {
-    if wrong_length(body) {
-        return 10;
-    }
-    8 * body.chunks_exact(10).any(broken) as u32
-}
-
 pub fn check(body: &[u8]) -> Result<(), u32> {
-    match refusal(body) {
-        0 => Ok(()),
-        n => Err(n),
+    if wrong_length(body) {
+        return Err(10);
     }
+    if body.chunks_exact(10).any(broken) {
+        return Err(8);
+    }
+    Ok(())
 }
 
-fn settled_check(body: &[u8]) -> u32 {
+/// 8, 17, or 0 for records that are whole.
+fn timed_records(records: &[u8], hit_cycles: u32) -> u32 {
+    let mut refused = hit_cycles > 15;
+    for b in records.chunks_exact(10) {
+        if broken(b) {
+            return 8;
+        }
+        refused |= too_short(b, hit_cycles);
+    }
+    17 * refused as u32
+}
+
+fn timed_check(body: &[u8], hit_cycles: u32) -> u32 {
     if wrong_length(body) {
         return 10;
     }
+    timed_records(body, hit_cycles)
+}
+
+fn settled_check(body: &[u8], hit_cycles: u32) -> u32 {
+    if wrong_length(body) {
+        return 10;
+    }
+    let mut refused = hit_cycles > 15;
     let mut unknown = false;
     for b in body.chunks_exact(10) {
         if broken(b) {
             return 8;
         }
+        refused |= too_short(b, hit_cycles);
         unknown |= b[1] & 2 != 0 || b[1] & 8 != 0;
+    }
+    if refused {
+        return 17;
     }
     11 * unknown as u32
 }
@@ -130,7 +157,7 @@ struct Window {
 }
 
 /// When the instruction enters IF, ID, EX, MEM, its last stage and post.
-fn times(w: &Window, i: &Instruction) -> [u32; 6] {
+fn times(w: &Window, i: &Instruction, hit_cycles: u32) -> [u32; 6] {
     let memory = if i.fetch == 0 { 0 } else { w.load_done.max(w.store_done) };
     let at_if = w.id.max(1).max(w.branch_done).max(memory);
     let at_id = (at_if + i.in_if() + 1).max(w.ex);
@@ -139,17 +166,18 @@ fn times(w: &Window, i: &Instruction) -> [u32; 6] {
     let store = if i.access == 1 { w.store_done } else { 0 };
     let at_mem = (at_ex + i.execution + 1).max(w.last).max(store);
     let busy = if i.kind == STORE { w.store_done } else { 0 };
-    let at_last = (at_mem + i.in_mem() + 1).max(busy);
-    [at_if, at_id, at_ex, at_mem, at_last, at_last + i.in_last() + 1]
+    let at_last = (at_mem + i.in_mem(hit_cycles) + 1).max(busy);
+    [at_if, at_id, at_ex, at_mem, at_last, at_last + i.in_last(hit_cycles) + 1]
 }
 
+/// A load is done when it enters WB, which is always free.
 fn slide(w: &mut Window, i: &Instruction, e: &[u32; 6]) {
     [w.id, w.ex, w.mem, w.last] = [e[1], e[2], e[3], e[4]];
     w.load_target = 0;
     match i.kind {
         BRANCH => w.branch_done = e[2] + i.execution + 1,
         LOAD => {
-            w.load_done = e[3] + i.in_mem() + 1;
+            w.load_done = e[4];
             w.load_target = i.target;
         }
         STORE => w.store_done = e[5],
@@ -158,33 +186,33 @@ fn slide(w: &mut Window, i: &Instruction, e: &[u32; 6]) {
     w.finish = w.finish.max(e[5]);
 }
 
-fn pass(body: &[u8], to: u8) -> u32 {
+fn pass(body: &[u8], to: u8, hit_cycles: u32) -> u32 {
     let mut w = Window::default();
     for b in body.chunks_exact(10) {
         let i = read(b).settled(to);
-        let e = times(&w, &i);
+        let e = times(&w, &i, hit_cycles);
         slide(&mut w, &i, &e);
     }
     w.finish
 }
 
-pub fn finish(body: &[u8]) -> Result<u32, u32> {
-    match settled_check(body) {
-        0 => Ok(pass(body, 0)),
+pub fn finish(body: &[u8], hit_cycles: u32) -> Result<u32, u32> {
+    match settled_check(body, hit_cycles) {
+        0 => Ok(pass(body, 0, hit_cycles)),
         n => Err(n),
     }
 }
 
-pub fn best_worst(body: &[u8]) -> Result<(u32, u32), u32> {
-    match refusal(body) {
-        0 => Ok((pass(body, 0), pass(body, 1))),
+pub fn best_worst(body: &[u8], hit_cycles: u32) -> Result<(u32, u32), u32> {
+    match timed_check(body, hit_cycles) {
+        0 => Ok((pass(body, 0, hit_cycles), pass(body, 1, hit_cycles))),
         n => Err(n),
     }
 }
 
-pub fn margin(body: &[u8], deadline: u32) -> Result<i64, u32> {
-    match refusal(body) {
-        0 => Ok(deadline as i64 - pass(body, 1) as i64),
+pub fn margin(body: &[u8], deadline: u32, hit_cycles: u32) -> Result<i64, u32> {
+    match timed_check(body, hit_cycles) {
+        0 => Ok(deadline as i64 - pass(body, 1, hit_cycles) as i64),
         n => Err(n),
     }
 }
@@ -203,8 +231,8 @@ fn counted(body: &[u8]) -> (u32, u32) {
     (accesses, longest)
 }
 
-pub fn bus_time(body: &[u8], wait: u16) -> Result<(u32, u32), u32> {
-    match refusal(body) {
+pub fn bus_time(body: &[u8], wait: u16, hit_cycles: u32) -> Result<(u32, u32), u32> {
+    match timed_check(body, hit_cycles) {
         0 => {}
         n => return Err(n),
     }
@@ -212,15 +240,15 @@ pub fn bus_time(body: &[u8], wait: u16) -> Result<(u32, u32), u32> {
     if longest + wait as u32 > 65535 {
         return Err(15);
     }
-    Ok((accesses, pass(body, 1) + accesses * wait as u32))
+    Ok((accesses, pass(body, 1, hit_cycles) + accesses * wait as u32))
 }
 
 fn hold(slot: &mut Slot, k: usize, count: u32) {
     *slot = Slot { filled: true, index: k as u32, count };
 }
 
-pub fn run(body: &[u8], limit: u32) -> Result<(State, u32, bool), u32> {
-    match settled_check(body) {
+pub fn run(body: &[u8], limit: u32, hit_cycles: u32) -> Result<(State, u32, bool), u32> {
+    match settled_check(body, hit_cycles) {
         0 => {}
         n => return Err(n),
     }
@@ -228,7 +256,7 @@ pub fn run(body: &[u8], limit: u32) -> Result<(State, u32, bool), u32> {
     let mut s = State::start();
     for (k, b) in body.chunks_exact(10).enumerate() {
         let i = read(b);
-        let e = times(&w, &i);
+        let e = times(&w, &i, hit_cycles);
         slide(&mut w, &i, &e);
         if limit < e[0] {
             break;
@@ -244,9 +272,9 @@ pub fn run(body: &[u8], limit: u32) -> Result<(State, u32, bool), u32> {
         } else if limit < e[3] {
             hold(&mut s.EX, k, i.execution.saturating_sub(limit - e[2]));
         } else if limit < e[4] {
-            hold(&mut s.MEM, k, i.in_mem().saturating_sub(limit - e[3]));
+            hold(&mut s.MEM, k, i.in_mem(hit_cycles).saturating_sub(limit - e[3]));
         } else if i.kind == STORE {
-            hold(&mut s.ST, k, i.in_last().saturating_sub(limit - e[4]));
+            hold(&mut s.ST, k, i.in_last(hit_cycles).saturating_sub(limit - e[4]));
         } else {
             hold(&mut s.WB, k, 0);
         }
@@ -289,12 +317,12 @@ fn held_back(body: &[u8], s: &State, level: u32, k: u32) -> bool {
     })
 }
 
-fn orderly(body: &[u8], s: &State) -> bool {
+fn orderly(body: &[u8], s: &State, hit_cycles: u32) -> bool {
     let entry = |i: &Instruction, level: usize| match level {
         0 => i.in_if(),
         2 => i.execution,
-        3 => i.in_mem(),
-        4 => i.in_last(),
+        3 => i.in_mem(hit_cycles),
+        4 => i.in_last(hit_cycles),
         _ => 0,
     };
     let mut younger = 0;
@@ -324,7 +352,7 @@ fn stay(slot: Slot, gone: bool) -> Slot {
 }
 
 /// One cycle of an orderly state of an accepted body.
-pub fn cycle(body: &[u8], s: &State) -> State {
+pub fn cycle(body: &[u8], s: &State, hit_cycles: u32) -> State {
     let more = (s.fetched as usize) < body.len() / 10;
     let still = |slot: Slot| slot.filled && slot.count == 0;
     let st = still(s.ST);
@@ -342,15 +370,15 @@ pub fn cycle(body: &[u8], s: &State) -> State {
         IF: into(pre, s.fetched, at(body, s.fetched).in_if(), s.IF, fe),
         ID: into(fe, s.IF.index, 0, s.ID, id),
         EX: into(id, s.ID.index, at(body, s.ID.index).execution, s.EX, ex),
-        MEM: into(ex, s.EX.index, at(body, s.EX.index).in_mem(), s.MEM, mem),
-        ST: into(mem && store, s.MEM.index, in_mem.in_last(), s.ST, st),
+        MEM: into(ex, s.EX.index, at(body, s.EX.index).in_mem(hit_cycles), s.MEM, mem),
+        ST: into(mem && store, s.MEM.index, in_mem.in_last(hit_cycles), s.ST, st),
         WB: into(mem && !store, s.MEM.index, 0, s.WB, wb),
     }
 }
 
-pub fn step(body: &[u8], s: &State) -> Result<State, u32> {
-    match settled_check(body) {
-        0 if orderly(body, s) => Ok(cycle(body, s)),
+pub fn step(body: &[u8], s: &State, hit_cycles: u32) -> Result<State, u32> {
+    match settled_check(body, hit_cycles) {
+        0 if orderly(body, s, hit_cycles) => Ok(cycle(body, s, hit_cycles)),
         0 => Err(12),
         n => Err(n),
     }
@@ -362,11 +390,11 @@ pub fn all_left(body: &[u8], s: &State) -> bool {
 }
 
 /// Cycle after cycle, nothing checked: the state after at most `limit` cycles, and how many were run.
-pub fn simulate(body: &[u8], limit: u32) -> (State, u32) {
+pub fn simulate(body: &[u8], limit: u32, hit_cycles: u32) -> (State, u32) {
     let mut s = State::start();
     let mut t = 0;
     while t < limit && !all_left(body, &s) {
-        s = cycle(body, &s);
+        s = cycle(body, &s, hit_cycles);
         t += 1;
     }
     (s, t)
@@ -381,8 +409,8 @@ fn settled_body(body: &[u8], to: u8) -> Vec<u8> {
     settled
 }
 
-pub fn best_worst_by_cycles(body: &[u8]) -> (u32, u32) {
-    let time = |to: u8| simulate(&settled_body(body, to), u32::MAX).1;
+pub fn best_worst_by_cycles(body: &[u8], hit_cycles: u32) -> (u32, u32) {
+    let time = |to: u8| simulate(&settled_body(body, to), u32::MAX, hit_cycles).1;
     (time(0), time(1))
 }
 
@@ -394,8 +422,8 @@ fn bounds(file: &[u8], trace: usize) -> std::ops::Range<usize> {
     start..start + 10 * half(at + 4)
 }
 
-/// How many traces a file has that nothing declines.
-fn check_file(file: &[u8]) -> Result<usize, u32> {
+/// How many traces a file has whose table is in order, with bodies of whole records behind it.
+fn check_table(file: &[u8]) -> Result<usize, u32> {
     if file.len() > 65536 {
         return Err(1);
     }
@@ -424,27 +452,36 @@ fn check_file(file: &[u8]) -> Result<usize, u32> {
     if file.len() != end {
         return Err(7);
     }
-    if file[2 + 6 * count..].chunks_exact(10).any(broken) {
-        return Err(8);
-    }
     Ok(count)
 }
 
+/// The records of all traces, so many, of a file whose table is in order.
+fn all_records(file: &[u8], count: usize) -> &[u8] {
+    &file[2 + 6 * count..]
+}
+
 pub fn open(file: &[u8], trace: u32) -> Result<&[u8], u32> {
-    let count = check_file(file)?;
+    let count = check_table(file)?;
+    if all_records(file, count).chunks_exact(10).any(broken) {
+        return Err(8);
+    }
     if trace as usize >= count {
         return Err(9);
     }
     Ok(&file[bounds(file, trace as usize)])
 }
 
-pub fn worst_times(file: &[u8], times: &mut [u32]) -> Result<usize, u32> {
-    let count = check_file(file)?;
+pub fn worst_times(file: &[u8], times: &mut [u32], hit_cycles: u32) -> Result<usize, u32> {
+    let count = check_table(file)?;
+    match timed_records(all_records(file, count), hit_cycles) {
+        0 => {}
+        n => return Err(n),
+    }
     if times.len() < count {
         return Err(16);
     }
     for (t, time) in times.iter_mut().enumerate().take(count) {
-        *time = pass(&file[bounds(file, t)], 1);
+        *time = pass(&file[bounds(file, t)], 1, hit_cycles);
     }
     Ok(count)
 }

@@ -4,50 +4,51 @@ use mathlib.Core.Path.{sym, ap, _∙_}
 use native.Mathlib.Omega.{arith}
 use borrow.Author.Needs.{needs}
 use Rattle.record.specs.Rules.{flagOf}
+use Rattle.record.proofs.Accepted.{timed-accepted}
 use Rattle.record.proofs.Refusals.{stop, go-on, last-fails, last-passes}
 use Rattle.bus.specs.Answers.{longWait, waitRefusal, busRefusal}
 use Rattle.bus.proofs.Answered.{refused, given, sum-fits}
 use Rattle.bus.proofs.call.bus_time.Statement.{statement}
 use Rattle.bus.proofs.call.bus_time.Tie as tie
 
-body-refusal-requires : tie.Need-body-refusal-requires
-body-refusal-requires c κs = search needs
+timed-refusal-requires : tie.Need-timed-refusal-requires
+timed-refusal-requires c κs = search needs
 
 -- the pass is asked of an accepted body only
 count-accesses-requires : tie.Need-count-accesses-requires
-count-accesses-requires c κs = search needs
+count-accesses-requires c κs = timed-accepted _ _ (sym (c .before .timed-refusal .ensures) ∙ c .if1 .left)
 
 returns : tie.Need-returns
 unfolding busRefusal
-returns c = refused _ _ (stop _ (c .before .body-refusal .ensures) (c .if1 .taken)) (c .if1 .taken)
+returns c = refused _ _ _ (stop _ (c .before .timed-refusal .ensures) (c .if1 .taken)) (c .if1 .taken)
 
 returns-2 : tie.Need-returns-2
 unfolding busRefusal waitRefusal
 returns-2 c =
     let counted = c .before in
     let asked = counted .before .before in
-    refused _ _
-    (go-on (asked .body-refusal .ensures) (counted .before .if1 .left) (last-fails longWait (counted .count-accesses .ensures .too-long ∙ ap not (c .if2 .taken))))
+    refused _ _ _
+    (go-on (asked .timed-refusal .ensures) (counted .before .if1 .left) (last-fails longWait (counted .count-accesses .ensures .too-long ∙ ap not (c .if2 .taken))))
     (omega arith)
 
 finish-settled-requires : tie.Need-finish-settled-requires
 finish-settled-requires c κs = search needs
 
-mul-t9 : tie.Need-mul-t9
+mul-t10 : tie.Need-mul-t10
 unfolding flagOf
-mul-t9 c =
+mul-t10 c =
     let counted = c .before .before in
     let asked = counted .before .before in
     let known = asked .before in
-    omega (arith, sum-fits (known .before .args .body .now) (λ n. known .shared-slice-known .given n .fits) (sym (asked .body-refusal .ensures) ∙ counted .before .if1 .left) (known .before .args .wait) (omega arith) (counted .count-accesses .ensures .accesses) (c .finish-settled .ensures) .0)
+    omega (arith, sum-fits (known .before .args .body .now) (known .before .args .hit-cycles) (λ n. known .shared-slice-known .given n .fits) (sym (asked .timed-refusal .ensures) ∙ counted .before .if1 .left) (known .before .args .wait) (omega arith) (counted .count-accesses .ensures .accesses) (c .finish-settled .ensures) .0)
 
-add-t10 : tie.Need-add-t10
+add-t11 : tie.Need-add-t11
 unfolding flagOf
-add-t10 c =
+add-t11 c =
     let counted = c .before .before in
     let asked = counted .before .before in
     let known = asked .before in
-    omega (arith, sum-fits (known .before .args .body .now) (λ n. known .shared-slice-known .given n .fits) (sym (asked .body-refusal .ensures) ∙ counted .before .if1 .left) (known .before .args .wait) (omega arith) (counted .count-accesses .ensures .accesses) (c .finish-settled .ensures) .1)
+    omega (arith, sum-fits (known .before .args .body .now) (known .before .args .hit-cycles) (λ n. known .shared-slice-known .given n .fits) (sym (asked .timed-refusal .ensures) ∙ counted .before .if1 .left) (known .before .args .wait) (omega arith) (counted .count-accesses .ensures .accesses) (c .finish-settled .ensures) .1)
 
 returns-3 : tie.Need-returns-3
 unfolding busRefusal waitRefusal
@@ -55,8 +56,8 @@ returns-3 c =
     let counted = c .before .before in
     let asked = counted .before .before in
     let start = asked .before .before in
-    given (start .args .body .now) (start .args .wait)
-    (sym (go-on (asked .body-refusal .ensures) (counted .before .if1 .left) (last-passes longWait (counted .count-accesses .ensures .too-long ∙ ap not (c .before .if2 .left)))))
+    given (start .args .body .now) (start .args .wait) (start .args .hit-cycles)
+    (sym (go-on (asked .timed-refusal .ensures) (counted .before .if1 .left) (last-passes longWait (counted .count-accesses .ensures .too-long ∙ ap not (c .before .if2 .left)))))
     (counted .count-accesses .ensures .accesses)
     (c .finish-settled .ensures)
 
@@ -64,11 +65,11 @@ pub bus-time-spec : {M : Type 1} → statement M
 bus-time-spec =
     tie.close
     (tie.spec
-    body-refusal-requires
+    timed-refusal-requires
     returns
     count-accesses-requires
     returns-2
     finish-settled-requires
-    mul-t9
-    add-t10
+    mul-t10
+    add-t11
     returns-3)

@@ -3,15 +3,24 @@ use mathlib.Core.Path.{_≡_, sym, ap, _∙_}
 use borrow.Author.Needs.{needs}
 use Rattle.machine.proofs.Connectives.{and-failed-l}
 use Rattle.machine.proofs.Masks.{maskOf, goes-post}
+use Prim.Native.Nat.{ℕ}
+use Rattle.machine.specs.Test.{_and_}
+use Rattle.machine.specs.Hits.{withHits}
+use Rattle.machine.specs.declared.State.{State}
 use Rattle.machine.proofs.BySlots.{storeInMEM}
+use Rattle.machine.proofs.HitSlots.{goes-alike}
 use Rattle.machine.specs.Rules.{isStore}
-use Rattle.machine.specs.Instruction.{Instruction}
+use Rattle.machine.specs.Instruction.{Instruction, Trace}
 use Rattle.moving.specs.declared.moving.Bits.{Bits}
-use Rattle.moving.specs.Inner.{bitOf}
-use Rattle.starting.specs.Inner.{starts}
+use Rattle.moving.specs.Inner.{bitOf, bitsOf}
+use Rattle.starting.specs.Inner.{starts, opensAfter}
 use Rattle.cycle.proofs.Starts.{leaving-is, standstill-is, none-set}
 use Rattle.cycle.proofs.cycling.cycle.Statement.{statement}
 use Rattle.cycle.proofs.cycling.cycle.Tie as tie
+
+-- which instructions could move is not a matter of a data hit's cycles
+starts-alike : (h : ℕ) (trace : Trace) (s : State) → starts (withHits h trace) s ≡ starts trace s
+starts-alike h trace s = λ t k. goes-alike h trace s t k and opensAfter s k
 
 starts-requires : tie.Need-starts-requires
 starts-requires c κs = tt
@@ -24,12 +33,14 @@ all-stay-requires c κs = tt
 
 returns : tie.Need-returns
 returns c =
-    λ trace h e.
+    λ given h e.
     let c3 = c .before .before .before in
     let s = c3 .before .args .s in
+    let hits = c3 .before .args .hit-cycles in
+    let trace = withHits hits given in
     let idle = sym (c .before .before .none .ensures) ∙ c .before .if1 .taken in
     c .all-stay .ensures
-    ∙ standstill-is trace s (none-set (starts trace s) (and-failed-l _ _ (goes-post trace s)) (c3 .starts .ensures trace h e) idle)
+    ∙ standstill-is trace s (none-set (starts trace s) (and-failed-l _ _ (goes-post trace s)) (c3 .starts .ensures given h e ∙ ap bitsOf (sym (starts-alike hits given s))) idle)
 
 is-store-requires : tie.Need-is-store-requires
 is-store-requires c κs = tt

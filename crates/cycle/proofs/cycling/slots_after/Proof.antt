@@ -4,7 +4,10 @@ use mathlib.Core.Path.{refl, sym, ap, _∙_}
 use mathlib.Core.Bool.{Bool, not, cond}
 use borrow.Author.Needs.{needs}
 use Rattle.machine.proofs.Connectives.{and-true}
+use Rattle.machine.specs.Hits.{withHits}
 use Rattle.machine.proofs.BySlots.{standing, stageBefore, takes, arrives}
+use Rattle.machine.proofs.HitSlots.{timed-read, leaves-alike, store-alike}
+use Rattle.moving.specs.Inner.{bitsOf}
 use Rattle.machine.specs.Rules.{IF, ID, EX, MEM, ST, WB, entry}
 use Rattle.record.specs.Rules.{instructionOf}
 use Rattle.moving.specs.declared.moving.Bits.{Bits}
@@ -47,12 +50,16 @@ slot-after-requires-6 c κs = tt
 returns : tie.Need-returns
 unfolding standing stageBefore takes arrives entry instructionOf
 returns c =
-    λ trace h m t.
+    λ given h m′ t′.
     let c3 = c .before .before .before in
     let c6 = c3 .before .before .before in
     let c9 = c6 .before .before .before in
     let c12 = c9 .before .before .before in
     let s = c12 .args .s in
+    let hits = c12 .args .hit-cycles in
+    let trace = withHits hits given in
+    let m = m′ ∙ ap bitsOf (sym (leaves-alike hits given s)) in
+    let t = t′ ∙ sym (store-alike hits given s) in
     let atPre = ap (λ (b : Bits). b .pre) m in
     let atIF = ap (λ (b : Bits). b .IF) m in
     let atID = ap (λ (b : Bits). b .ID) m in
@@ -62,11 +69,11 @@ returns c =
     let atWB = ap (λ (b : Bits). b .WB) m in
     state-is trace s
     (c9 .before .before .fetched-after .ensures ∙ ap (λ (b : Bool). cond b (suc (s .fetched)) (s .fetched)) atPre)
-    (slot-is trace s IF (c9 .slot-after .ensures) (atPre ∙ sym (and-true _)) (λ _. c9 .before .count-in-if .ensures ∙ entry-of IF (h .pre)) atIF)
+    (slot-is trace s IF (c9 .slot-after .ensures) (atPre ∙ sym (and-true _)) (λ _. c9 .before .count-in-if .ensures ∙ entry-of IF (timed-read hits given (s .fetched) (h .pre))) atIF)
     (slot-is trace s ID (c6 .before .before .slot-after2 .ensures) (atIF ∙ sym (and-true _)) (λ _. refl) atID)
-    (slot-is trace s EX (c6 .before .slot-after3 .ensures) (atID ∙ sym (and-true _)) (λ a. entry-of EX (h .ID (leaves-filled trace s ID refl (sym atID ∙ a)))) atEX)
-    (slot-is trace s MEM (c3 .before .before .slot-after4 .ensures) (atEX ∙ sym (and-true _)) (λ a. c6 .count-in-mem .ensures ∙ entry-of MEM (h .EX (leaves-filled trace s EX refl (sym atEX ∙ a)))) atMEM)
-    (slot-is trace s ST (c .before .before .slot-after5 .ensures) (both-of atMEM t) (λ _. c3 .count-in-st .ensures ∙ entry-of ST (h .MEM)) atST)
+    (slot-is trace s EX (c6 .before .slot-after3 .ensures) (atID ∙ sym (and-true _)) (λ a. entry-of EX (timed-read hits given (s .ID .index) (h .ID (leaves-filled trace s ID refl (sym atID ∙ a))))) atEX)
+    (slot-is trace s MEM (c3 .before .before .slot-after4 .ensures) (atEX ∙ sym (and-true _)) (λ a. c6 .count-in-mem .ensures ∙ entry-of MEM (timed-read hits given (s .EX .index) (h .EX (leaves-filled trace s EX refl (sym atEX ∙ a))))) atMEM)
+    (slot-is trace s ST (c .before .before .slot-after5 .ensures) (both-of atMEM t) (λ _. c3 .count-in-st .ensures ∙ entry-of ST (timed-read hits given (s .MEM .index) (h .MEM))) atST)
     (slot-is trace s WB (c .slot-after6 .ensures) (both-of atMEM (ap not t)) (λ _. refl) atWB)
 
 pub slots-after-spec : {M : Type 1} → statement M

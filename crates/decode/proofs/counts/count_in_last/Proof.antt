@@ -14,7 +14,7 @@ choose-requires : tie.Need-choose-requires
 choose-requires c κs = search needs
 
 returns : tie.Need-returns
-returns c = last-count _ (c .before .before .is-store .ensures) (c .before .count-in-st .ensures) (c .choose .ensures)
+returns c = last-count _ _ (c .before .before .is-store .ensures) (c .before .count-in-st .ensures) (c .choose .ensures)
 
 pub count-in-last-spec : {M : Type 1} → statement M
 count-in-last-spec = tie.close (tie.spec is-store-requires count-in-st-requires choose-requires returns)

@@ -1,4 +1,4 @@
--- `count_in_mem` meets its contract: the data latency of a load that misses.
+-- `count_in_mem` meets its contract: of a load, the data latency on a miss and the hit's cycles else.
 use borrow.Author.Needs.{needs}
 use Rattle.decode.proofs.Entries.{MEM-count}
 use Rattle.decode.proofs.counts.count_in_mem.Statement.{statement}
@@ -13,8 +13,14 @@ access-misses-requires c κs = search needs
 choose-requires : tie.Need-choose-requires
 choose-requires c κs = search needs
 
+choose-requires-2 : tie.Need-choose-requires-2
+choose-requires-2 c κs = search needs
+
 returns : tie.Need-returns
-returns c = MEM-count _ (c .before .before .is-load .ensures) (c .before .access-misses .ensures) (c .choose .ensures)
+returns c =
+    MEM-count _ _ (c .before .before .before .is-load .ensures) (c .before .before .access-misses .ensures) (c .before .choose .ensures) (c .choose2 .ensures)
 
 pub count-in-mem-spec : {M : Type 1} → statement M
-count-in-mem-spec = tie.close (tie.spec is-load-requires access-misses-requires choose-requires returns)
+count-in-mem-spec =
+    tie.close
+    (tie.spec is-load-requires access-misses-requires choose-requires choose-requires-2 returns)

@@ -10,11 +10,27 @@ is-store-requires c κs = search needs
 access-misses-requires : tie.Need-access-misses-requires
 access-misses-requires c κs = search needs
 
+add-choose : tie.Need-add-choose
+add-choose c = search needs
+
 choose-requires : tie.Need-choose-requires
 choose-requires c κs = search needs
 
+choose-requires-2 : tie.Need-choose-requires-2
+choose-requires-2 c κs = search needs
+
 returns : tie.Need-returns
-returns c = last-cycles _ (c .before .before .before .pre) (c .before .before .is-store .ensures) (c .before .access-misses .ensures) (c .choose .ensures)
+returns c =
+    let c3 = c .before .before .before in
+    last-cycles _ _ (c3 .before .pre .0) (c3 .is-store .ensures) (c .before .before .access-misses .ensures) (c .before .choose .ensures) (c .choose2 .ensures)
 
 pub cycles-in-last-spec : {M : Type 1} → statement M
-cycles-in-last-spec = tie.close (tie.spec is-store-requires access-misses-requires choose-requires returns)
+cycles-in-last-spec =
+    tie.close
+    (tie.spec
+    is-store-requires
+    access-misses-requires
+    add-choose
+    choose-requires
+    choose-requires-2
+    returns)

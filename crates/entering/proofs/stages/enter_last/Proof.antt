@@ -23,7 +23,7 @@ later-requires : tie.Need-later-requires
 later-requires c κs = search needs
 
 returns : tie.Need-returns
-returns c = last-step _ _ _ (c .before .before .before .count-in-mem .ensures) (c .before .before .is-store .ensures) (c .before .choose .ensures) (c .later .ensures)
+returns c = last-step _ _ _ _ (c .before .before .before .count-in-mem .ensures) (c .before .before .is-store .ensures) (c .before .choose .ensures) (c .later .ensures)
 
 pub enter-last-spec : {M : Type 1} → statement M
 enter-last-spec =

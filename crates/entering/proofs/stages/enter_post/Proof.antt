@@ -6,7 +6,7 @@ use Rattle.entering.proofs.stages.enter_post.Statement.{statement}
 use Rattle.entering.proofs.stages.enter_post.Tie as tie
 
 cycles-in-last-requires : tie.Need-cycles-in-last-requires
-cycles-in-last-requires c κs = c .pre .1
+cycles-in-last-requires c κs = (c .pre .1, c .pre .2)
 
 add-result : tie.Need-add-result
 add-result c = search needs

@@ -7,10 +7,10 @@ use Rattle.model.proofs.rules.cycle.Statement.{statement}
 use Rattle.model.proofs.rules.cycle.Tie as tie
 
 abbrev Inv-loop : tie.InvT-loop
-Inv-loop body stages₀ counts₀ free n older₀ i₀ stages counts older i = (n ≤ 4096) × ((i ≤ n) × ((length stages ≡ length stages₀) × (length counts ≡ length counts₀)))
+Inv-loop body stages₀ counts₀ hit-cycles free n older₀ i₀ stages counts older i = (n ≤ 4096) × ((i ≤ n) × ((length stages ≡ length stages₀) × (length counts ≡ length counts₀)))
 
 abbrev μ-loop : tie.MeasureT-loop
-μ-loop body stages₀ counts₀ free n older₀ i₀ stages counts older i = n - i
+μ-loop body stages₀ counts₀ hit-cycles free n older₀ i₀ stages counts older i = n - i
 
 all-standing-requires : tie.Need-all-standing-requires Inv-loop μ-loop
 all-standing-requires c κs = tt

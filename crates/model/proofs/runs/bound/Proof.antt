@@ -5,10 +5,10 @@ use Rattle.model.proofs.runs.bound.Statement.{statement}
 use Rattle.model.proofs.runs.bound.Tie as tie
 
 abbrev Inv-loop : tie.InvT-loop
-Inv-loop body n total₀ i₀ total i = (n ≤ 4096) × (i ≤ n)
+Inv-loop body hit-cycles n total₀ i₀ total i = (n ≤ 4096) × (i ≤ n)
 
 abbrev μ-loop : tie.MeasureT-loop
-μ-loop body n total₀ i₀ total i = n - i
+μ-loop body hit-cycles n total₀ i₀ total i = n - i
 
 size-requires : tie.Need-size-requires Inv-loop μ-loop
 size-requires c κs = tt

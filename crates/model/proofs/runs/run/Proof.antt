@@ -7,10 +7,10 @@ use Rattle.model.proofs.runs.run.Statement.{statement}
 use Rattle.model.proofs.runs.run.Tie as tie
 
 abbrev Inv-loop : tie.InvT-loop
-Inv-loop body limit stages₀ counts₀ cycles₀ stages counts cycles = (cycles ≤ limit) × ((length stages ≡ length stages₀) × (length counts ≡ length counts₀))
+Inv-loop body limit stages₀ counts₀ hit-cycles cycles₀ stages counts cycles = (cycles ≤ limit) × ((length stages ≡ length stages₀) × (length counts ≡ length counts₀))
 
 abbrev μ-loop : tie.MeasureT-loop
-μ-loop body limit stages₀ counts₀ cycles₀ stages counts cycles = limit - cycles
+μ-loop body limit stages₀ counts₀ hit-cycles cycles₀ stages counts cycles = limit - cycles
 
 start-requires : tie.Need-start-requires Inv-loop μ-loop
 start-requires c κs = tt

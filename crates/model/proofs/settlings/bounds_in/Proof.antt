@@ -7,12 +7,12 @@ use Rattle.model.proofs.settlings.bounds_in.Statement.{statement}
 use Rattle.model.proofs.settlings.bounds_in.Tie as tie
 
 abbrev Inv-loop : tie.InvT-loop
-Inv-loop body out₀ stages₀ counts₀ last best₀ worst₀ choice₀ out stages counts best worst choice =
+Inv-loop body out₀ stages₀ counts₀ hit-cycles last best₀ worst₀ choice₀ out stages counts best worst choice =
     (choice ≤ last)
     × ((length out ≡ length out₀) × ((length stages ≡ length stages₀) × (length counts ≡ length counts₀)))
 
 abbrev μ-loop : tie.MeasureT-loop
-μ-loop body out₀ stages₀ counts₀ last best₀ worst₀ choice₀ out stages counts best worst choice = last - choice
+μ-loop body out₀ stages₀ counts₀ hit-cycles last best₀ worst₀ choice₀ out stages counts best worst choice = last - choice
 
 last-choice-requires : tie.Need-last-choice-requires Inv-loop μ-loop
 last-choice-requires c κs = tt

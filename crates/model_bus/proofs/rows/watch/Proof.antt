@@ -7,10 +7,10 @@ use Rattle.model_bus.proofs.rows.watch.Statement.{statement}
 use Rattle.model_bus.proofs.rows.watch.Tie as tie
 
 abbrev Inv-loop : tie.InvT-loop
-Inv-loop body stages₀ counts₀ bound w₀ cycle₀ stages counts w cycle = (cycle ≤ bound) × ((length stages ≡ length stages₀) × (length counts ≡ length counts₀))
+Inv-loop body stages₀ counts₀ hit-cycles bound w₀ cycle₀ stages counts w cycle = (cycle ≤ bound) × ((length stages ≡ length stages₀) × (length counts ≡ length counts₀))
 
 abbrev μ-loop : tie.MeasureT-loop
-μ-loop body stages₀ counts₀ bound w₀ cycle₀ stages counts w cycle = bound - cycle
+μ-loop body stages₀ counts₀ hit-cycles bound w₀ cycle₀ stages counts w cycle = bound - cycle
 
 bound-requires : tie.Need-bound-requires Inv-loop μ-loop
 bound-requires c κs = tt

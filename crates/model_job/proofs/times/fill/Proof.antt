@@ -7,13 +7,13 @@ use Rattle.model_job.proofs.times.fill.Statement.{statement}
 use Rattle.model_job.proofs.times.fill.Tie as tie
 
 abbrev Inv-loop : tie.InvT-loop
-Inv-loop file traces flags times₀ out₀ stages₀ counts₀ trace₀ times out stages counts trace =
+Inv-loop file traces flags times₀ out₀ stages₀ counts₀ hit-cycles trace₀ times out stages counts trace =
     (trace ≤ traces)
     × ((length times ≡ length times₀)
     × ((length out ≡ length out₀) × ((length stages ≡ length stages₀) × (length counts ≡ length counts₀))))
 
 abbrev μ-loop : tie.MeasureT-loop
-μ-loop file traces flags times₀ out₀ stages₀ counts₀ trace₀ times out stages counts trace = traces - trace
+μ-loop file traces flags times₀ out₀ stages₀ counts₀ hit-cycles trace₀ times out stages counts trace = traces - trace
 
 loop-holds : tie.Need-loop-holds Inv-loop μ-loop
 loop-holds c = omega arith

@@ -5,6 +5,7 @@ use mathlib.Core.Path.{_≡_, ap, _∙_}
 use lib.Dec.{leb}
 use Rattle.machine.specs.declared.Slot.{Slot}
 use Rattle.machine.specs.Rules.{IF, EX, MEM, ST, entry}
+use Rattle.machine.proofs.HitSlots.{timed-read}
 use Rattle.record.specs.Rules.{instructionOf}
 use Rattle.orderly.specs.Inner.{countOf}
 use Rattle.decode.proofs.Entries.{entry-of}
@@ -52,16 +53,17 @@ returns c =
     let c6 = c4 .before .before in
     let c8 = c6 .before .before in
     let s = c8 .before .args .s in
+    let hits = c8 .before .args .hit-cycles in
     both-of
     (both-of
     (both-of
     (both-of
     (both-of
-    (c6 .before .counted .ensures ∙ count-under (s .IF) (λ t. c8 .count-in-if .ensures ∙ entry-of IF (h .IF t)))
+    (c6 .before .counted .ensures ∙ count-under (s .IF) (λ t. c8 .count-in-if .ensures ∙ entry-of IF (timed-read hits trace (s .IF .index) (h .IF t))))
     (c6 .counted2 .ensures))
-    (c4 .before .counted3 .ensures ∙ count-under (s .EX) (λ t. entry-of EX (h .EX t))))
-    (c2 .before .counted4 .ensures ∙ count-under (s .MEM) (λ t. c4 .count-in-mem .ensures ∙ entry-of MEM (h .MEM))))
-    (c .before .counted5 .ensures ∙ count-under (s .ST) (λ t. c2 .count-in-st .ensures ∙ entry-of ST (h .ST t))))
+    (c4 .before .counted3 .ensures ∙ count-under (s .EX) (λ t. entry-of EX (timed-read hits trace (s .EX .index) (h .EX t)))))
+    (c2 .before .counted4 .ensures ∙ count-under (s .MEM) (λ t. c4 .count-in-mem .ensures ∙ entry-of MEM (timed-read hits trace (s .MEM .index) (h .MEM)))))
+    (c .before .counted5 .ensures ∙ count-under (s .ST) (λ t. c2 .count-in-st .ensures ∙ entry-of ST (timed-read hits trace (s .ST .index) (h .ST t)))))
     (c .counted6 .ensures)
 
 pub all-counted-spec : {M : Type 1} → statement M

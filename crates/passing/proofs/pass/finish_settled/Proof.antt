@@ -23,7 +23,7 @@ returns c =
     let reached = c .before in
     let known = reached .before .before in
     c .all-left-by .ensures
-    ∙ skips-all _ _ _ (settled-small _ (λ n. known .shared-slice-known .given n .fits) (known .before .pre) _) (omega arith) (reached .skip-left .ensures)
+    ∙ skips-all _ _ _ (settled-small _ _ _ (λ n. known .shared-slice-known .given n .fits) (known .before .pre)) (omega arith) (reached .skip-left .ensures)
 
 pub finish-settled-spec : {M : Type 1} → statement M
 finish-settled-spec = tie.close (tie.spec no-window-requires skip-left-requires all-left-by-requires returns)

@@ -11,13 +11,13 @@ settled-at-requires c κs = search needs
 times-from-requires : tie.Need-times-from-requires
 times-from-requires c κs =
     let p = c .before .before .pre in
-    turn-fits _ (λ n. c .before .shared-slice-known .given n .fits) (p .0) _ _ (p .1) (p .2) (c .settled-at .ensures)
+    turn-fits _ _ _ (λ n. c .before .shared-slice-known .given n .fits) (p .0) _ (p .1) (p .2) (c .settled-at .ensures)
 
 slide-requires : tie.Need-slide-requires
 slide-requires c κs =
     let known = c .before .before in
     let p = known .before .pre in
-    turn-room _ (λ n. known .shared-slice-known .given n .fits) (p .0) _ _ (p .1) (p .2) (c .before .settled-at .ensures) (c .times-from .ensures)
+    turn-room _ _ _ (λ n. known .shared-slice-known .given n .fits) (p .0) _ (p .1) (p .2) (c .before .settled-at .ensures) (c .times-from .ensures)
 
 returns : tie.Need-returns
 returns c =
@@ -26,8 +26,8 @@ returns c =
     let this = c .before .before .settled-at .ensures in
     let from = c .before .times-from .ensures in
     let bytes : Bytes (known .before .args .body .now) = λ n. known .shared-slice-known .given n .fits in (
-      turn-times _ bytes (p .0) _ _ (p .1) (p .2) this from,
-      turn-slides _ bytes (p .0) _ _ (p .1) (p .2) this from (c .slide .ensures),
+      turn-times _ _ _ bytes (p .0) _ (p .1) (p .2) this from,
+      turn-slides _ _ _ bytes (p .0) _ (p .1) (p .2) this from (c .slide .ensures),
     )
 
 pub timed-at-spec : {M : Type 1} → statement M

@@ -7,11 +7,11 @@ use borrow.Author.Needs.{needs}
 use Rattle.timing.proofs.calls.margin.Statement.{statement}
 use Rattle.timing.proofs.calls.margin.Tie as tie
 
-body-refusal-requires : tie.Need-body-refusal-requires
-body-refusal-requires c κs = search needs
+timed-refusal-requires : tie.Need-timed-refusal-requires
+timed-refusal-requires c κs = search needs
 
 returns : tie.Need-returns
-returns c = margin-refused _ _ (c .before .body-refusal .ensures) (c .if1 .taken)
+returns c = margin-refused _ _ _ (c .before .timed-refusal .ensures) (c .if1 .taken)
 
 finish-settled-requires : tie.Need-finish-settled-requires
 finish-settled-requires c κs = search needs
@@ -20,9 +20,9 @@ difference-requires : tie.Need-difference-requires
 difference-requires c κs = search needs
 
 returns-2 : tie.Need-returns-2
-returns-2 c = margin-given _ _ (sym (c .before .before .before .body-refusal .ensures) ∙ c .before .before .if1 .left) (c .before .finish-settled .ensures) (toZ-ofZ w64 (c .difference .result) (record { sfits = c .difference .ok }) ∙ c .difference .ensures)
+returns-2 c = margin-given _ _ _ (sym (c .before .before .before .timed-refusal .ensures) ∙ c .before .before .if1 .left) (c .before .finish-settled .ensures) (toZ-ofZ w64 (c .difference .result) (record { sfits = c .difference .ok }) ∙ c .difference .ensures)
 
 pub margin-spec : {M : Type 1} → statement M
 margin-spec =
     tie.close
-    (tie.spec body-refusal-requires returns finish-settled-requires difference-requires returns-2)
+    (tie.spec timed-refusal-requires returns finish-settled-requires difference-requires returns-2)

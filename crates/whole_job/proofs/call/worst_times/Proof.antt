@@ -14,7 +14,7 @@ job-refusal-requires c κs = search needs
 returns : tie.Need-returns
 returns c =
     let a = c .before .before .before .before .args in
-    refused (a .file .now) (a .times .now) (c .before .job-refusal .ensures) (c .if1 .taken)
+    refused (a .file .now) (a .times .now) (a .hit-cycles) (c .before .job-refusal .ensures) (c .if1 .taken)
 
 half-requires : tie.Need-half-requires
 half-requires c κs = search needs
@@ -23,8 +23,8 @@ put-times-requires : tie.Need-put-times-requires
 put-times-requires c κs =
     let asked = c .before .before .before in
     let a = asked .before .before .before .args in
-    let none : jobRefusal (a .file .now) (length (a .times .now)) ≡ 0 = sym (asked .job-refusal .ensures) ∙ c .before .before .if1 .left in
-    (accepted (a .file .now) (a .times .now) none, c .before .half .ensures .0, omega (arith, c .before .half .ensures .0, room (a .file .now) (a .times .now) none))
+    let none : jobRefusal (a .file .now) (length (a .times .now)) (a .hit-cycles) ≡ 0 = sym (asked .job-refusal .ensures) ∙ c .before .before .if1 .left in
+    (accepted (a .file .now) (a .times .now) (a .hit-cycles) none, c .before .half .ensures .0, omega (arith, c .before .half .ensures .0, room (a .file .now) (a .times .now) (a .hit-cycles) none))
 
 same-length : tie.Need-same-length
 same-length c = search needs
@@ -34,7 +34,7 @@ returns-2 c =
     let c₄ = c .before .before .before .before in
     let asked = c₄ .before .before in
     let a = asked .before .before .before .args in
-    given (a .file .now) (a .times .now)
+    given (a .file .now) (a .times .now) (a .hit-cycles)
     (sym (asked .job-refusal .ensures) ∙ c₄ .before .if1 .left) (c₄ .half .ensures .0) (c .before .before .put-times .ensures)
 
 pub worst-times-spec : {M : Type 1} → statement M

@@ -7,16 +7,17 @@ use native.Mathlib.Numerals.{add-one}
 use lib.ListN.{length, drop, set}
 use Rattle.record.specs.Body.{firsts}
 use Rattle.job.proofs.Accepted.{file-fine}
+use Rattle.timed_file.proofs.Hits.{file-accepted}
 use Rattle.whole_job.specs.Answers.{timedAlone}
 use Rattle.whole_job.proofs.Filled.{one-more}
 use Rattle.whole_job.proofs.filling.put_times.Statement.{statement}
 use Rattle.whole_job.proofs.filling.put_times.Tie as tie
 
 abbrev Inv-loop : tie.InvT-loop
-Inv-loop file times₀ all t₀ times t = (t ≤ all) × (length times ≡ length times₀) × (times ≡ firsts (timedAlone file) t ++ drop t times₀)
+Inv-loop file times₀ all h t₀ times t = (t ≤ all) × (length times ≡ length times₀) × (times ≡ firsts (timedAlone file h) t ++ drop t times₀)
 
 abbrev μ-loop : tie.MeasureT-loop
-μ-loop file times₀ all t₀ times t = all - t
+μ-loop file times₀ all h t₀ times t = all - t
 
 loop-holds : tie.Need-loop-holds Inv-loop μ-loop
 unfolding firsts
@@ -36,7 +37,7 @@ add-t : tie.Need-add-t Inv-loop μ-loop
 add-t c =
     let c₅ = c .before .before .before .before .before in
     let start = c₅ .before .before .before .before in
-    omega (arith, c₅ .loop-test .taken, start .pre .1, file-fine _ (start .pre .0) .table .few)
+    omega (arith, c₅ .loop-test .taken, start .pre .1, file-fine _ (file-accepted _ _ (start .pre .0)) .table .few)
 
 loop-less : tie.Need-loop-less Inv-loop μ-loop
 loop-less c = omega (arith, c .before .before .before .before .before .loop-test .taken)
@@ -57,8 +58,8 @@ loop-again c =
       put .kept .0 ∙ i .1,
       put .ensures
           ∙ ap₂ (λ (places : List ℕ) (time : ℕ). set places t time) (i .2) (c₃ .worst-time-at .ensures)
-          ∙ one-more (timedAlone file) times t inside
-          ∙ ap (λ (n : ℕ). firsts (timedAlone file) n ++ drop n times) (sym (add-one t)),
+          ∙ one-more (timedAlone file (start .args .hit-cycles)) times t inside
+          ∙ ap (λ (n : ℕ). firsts (timedAlone file (start .args .hit-cycles)) n ++ drop n times) (sym (add-one t)),
     )
 
 same-length : tie.Need-same-length Inv-loop μ-loop
@@ -69,7 +70,7 @@ returns c =
     let start = c .before .before .before .before in
     let i = c .before .loop .inv in
     let end : c .before .loop .t ≡ start .args .all = omega (arith, c .loop-test .left, i .0) in
-    i .2 ∙ ap (λ (n : ℕ). firsts (timedAlone (start .args .file .now)) n ++ drop n (start .args .times .now)) end
+    i .2 ∙ ap (λ (n : ℕ). firsts (timedAlone (start .args .file .now) (start .args .hit-cycles)) n ++ drop n (start .args .times .now)) end
 
 pub put-times-spec : {M : Type 1} → statement M
 put-times-spec =
