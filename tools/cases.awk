@@ -375,10 +375,14 @@ function written(t,   i, table, offset) {
 }
 
 # CALL ARGUMENTS: BYTES = ANSWER
-function one_case(head, rest,   words, n, i, call, body, answer, beside) {
+function one_case(head, rest,   words, n, i, call, hits, body, answer, beside) {
+    hits = match(head, / hits=[0-9]+$/) ? substr(head, RSTART + 6) : ""
+    sub(/ hits=[0-9]+$/, "", head)
     call = sub(/^engine /, "", head) ? toupper(substr(head, 1, 1)) : substr(head, 1, 1)
     n = split(head, words, " ")
-    call = call substr(words[1], 2)
+    call = call (hits == "" ? substr(words[1], 2) : hits)
+    if (hits + 0 > 4294967295) fail("no number of 32 bits: " hits)
+    if (hits != "" && words[1] ~ /^(open|view|write)$/) fail(words[1] " takes no hits=" hits)
     rest = " " rest
     i = match(rest, / = [^=]*$/)
     if (!i || index("/check/finish/times/run/margin/bus/job/open/view/step/alike/write/", "/" words[1] "/") == 0)

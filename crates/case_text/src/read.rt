@@ -40,7 +40,7 @@ pub fn number(s: &[u8], at: usize) -> Told {
     }
 }
 
-// The k-th number behind a line's word.
+// The k-th number behind a line's word; with k = 0, the one behind the word's first letter.
 pub fn nth(s: &[u8], k: usize) -> u32 {
     let mut told = number(s, 0);
     let mut i = 0;

@@ -22,8 +22,8 @@ fn open(s: &[u8], trace: u32, file: &[u8]) -> bool {
 }
 
 // step STATE = refusal, 0, 0, state; or only the refusal
-fn step(s: &[u8], body: &[u8]) -> bool {
-    let stepped = pipeline::step(body, state_at(s));
+fn step(s: &[u8], body: &[u8], hit_cycles: u32) -> bool {
+    let stepped = pipeline::step(body, state_at(s), hit_cycles);
     let told = first(s);
     if told.next == s.len() {
         return told.valid & (told.value == stepped.refusal);
@@ -55,41 +55,48 @@ fn view(s: &[u8], k: u32, body: &[u8]) -> bool {
 }
 
 // Whether it answers the line as that says.
-pub fn answers(call: u8, s: &[u8], argument: u32, body: &[u8], beside: &[u8]) -> bool {
+pub fn answers(
+    call: u8,
+    s: &[u8],
+    argument: u32,
+    body: &[u8],
+    beside: &[u8],
+    hit_cycles: u32,
+) -> bool {
     match call {
         b'o' => open(s, argument, body),
         b'w' => writes(s, body, beside, true),
-        b'j' => fills(s, argument, body, true),
+        b'j' => fills(s, argument, body, true, hit_cycles),
         b'c' => says(
             s,
             acceptance::body_refusal(body),
-            acceptance::settled_refusal(body),
+            acceptance::settled_refusal(body, hit_cycles),
             0,
         ),
         b'v' => view(s, argument, body),
-        b's' => step(s, body),
+        b's' => step(s, body, hit_cycles),
         b'r' => {
-            let ran = running::run(body, argument);
+            let ran = running::run(body, argument, hit_cycles);
             says_state(s, ran.refusal, ran.cycles, ran.left, ran.state)
         }
         b'f' => {
-            let found = timing::finish(body);
+            let found = timing::finish(body, hit_cycles);
             says(s, found.refusal, found.time, 0)
         }
         b't' => {
-            let found = timing::best_worst(body);
+            let found = timing::best_worst(body, hit_cycles);
             says(s, found.refusal, found.best, found.worst)
         }
         b'm' => {
-            let found = timing::margin(body, argument);
+            let found = timing::margin(body, argument, hit_cycles);
             says_margin(s, found.refusal, found.margin)
         }
         b'b' => {
-            let found = bus::bus_time(body, (argument % 65536) as u16);
+            let found = bus::bus_time(body, (argument % 65536) as u16, hit_cycles);
             says(s, found.refusal, found.accesses, found.time)
         }
         b'a' => {
-            let found = timing::alike(body, beside);
+            let found = timing::alike(body, beside, hit_cycles);
             says(s, found.refusal, found.alike as u32, 0)
         }
         _ => false,

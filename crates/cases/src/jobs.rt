@@ -33,7 +33,14 @@ fn put(told: &mut [u32], at: usize, value: u32) {
 
 // Whether the line tells all that is there after the call on the list, which ends at an index. What the call answers
 // is put before the list.
-fn told_after(s: &[u8], file: &[u8], end: usize, by_engine: bool, told: &mut [u32]) -> bool {
+fn told_after(
+    s: &[u8],
+    file: &[u8],
+    end: usize,
+    by_engine: bool,
+    told: &mut [u32],
+    hit_cycles: u32,
+) -> bool {
     if end < 2 {
         return false;
     }
@@ -41,19 +48,20 @@ fn told_after(s: &[u8], file: &[u8], end: usize, by_engine: bool, told: &mut [u3
         return false;
     }
     if by_engine {
-        let job = whole_job::worst_times(file, &mut told[2..end]);
+        let job = whole_job::worst_times(file, &mut told[2..end], hit_cycles);
         put(told, 0, job.refusal);
         put(told, 1, job.traces);
         return says_all(s, told);
     }
-    let job = model_job::worst_times(file, &mut told[2..end]);
+    let job = model_job::worst_times(file, &mut told[2..end], hit_cycles);
     put(told, 0, job.refusal);
     put(told, 1, job.traces);
     says_all(s, told)
 }
 
 // job PLACES = refusal, traces, and every place of the list, of which PLACES are lent
-pub fn fills(s: &[u8], places: u32, file: &[u8], by_engine: bool) -> bool {
+pub fn fills(s: &[u8], places: u32, file: &[u8], by_engine: bool, hit_cycles: u32) -> bool {
     let mut told = unfilled();
-    told_after(s, file, 2 + wide(places), by_engine, &mut told)
+    let end = 2 + wide(places);
+    told_after(s, file, end, by_engine, &mut told, hit_cycles)
 }

@@ -29,11 +29,12 @@ const LABEL: usize = 6;
 
 // 1 where the case comes out.
 fn try_case(s: &[u8], call: u8, n: u64, bytes: &[u8]) -> u64 {
+    let hit_cycles = nth(s, 0);
     let argument = nth(s, 2);
     let body = cut(bytes, 0, wide(nth(s, 1)));
     let beside = cut(bytes, BESIDE, BESIDE + wide(argument));
-    if engine::answers(call | SMALL, s, argument, body, beside) {
-        if second::answers(call, s, argument, body, beside) {
+    if engine::answers(call | SMALL, s, argument, body, beside, hit_cycles) {
+        if second::answers(call, s, argument, body, beside, hit_cycles) {
             return 1;
         }
         differs(s, n, b": the second model differs\n");

@@ -6,8 +6,9 @@
 //                      and two as one number, the low one first, and these again and again
 //   CALL LENGTH ARGUMENTS =ANSWER
 //                      a case, on so many bytes of the input; by the engine alone where CALL has a
-//                      capital. What a call is given and answers is told where it is made; an answer of
-//                      fewer than three numbers has zeros behind them
+//                      capital. CALL is the call's name, or its first letter and h, which is 0 otherwise.
+//                      What a call is given and answers is told where it is made; an answer of fewer than
+//                      three numbers has zeros behind them
 //   group LABEL        the end of a group
 mod engine;
 mod jobs;

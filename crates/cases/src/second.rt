@@ -38,12 +38,12 @@ fn state_of(body: &[u8], stages: &[u8], counts: &[u32]) -> State {
 }
 
 // A trace that is declined is run for no cycle, so that all is as at the start.
-fn run(s: &[u8], limit: u32, body: &[u8]) -> bool {
-    let refusal = model::settled_refusal(body);
+fn run(s: &[u8], limit: u32, body: &[u8], hit_cycles: u32) -> bool {
+    let refusal = model::settled_refusal(body, hit_cycles);
     let cycles = if refusal == 0 { limit } else { 0 };
     let mut stages = [0u8; 4096];
     let mut counts = [0u32; 4096];
-    let ran = model::run(body, cycles, &mut stages, &mut counts);
+    let ran = model::run(body, cycles, &mut stages, &mut counts, hit_cycles);
     let left = ran.left & (refusal == 0);
     says_state(
         s,
@@ -59,16 +59,20 @@ struct Outcome {
     time: u32,
 }
 
-fn finished(body: &[u8]) -> Outcome {
-    let refusal = model::settled_refusal(body);
-    let time = if refusal == 0 { model::finish(body) } else { 0 };
+fn finished(body: &[u8], hit_cycles: u32) -> Outcome {
+    let refusal = model::settled_refusal(body, hit_cycles);
+    let time = if refusal == 0 {
+        model::finish(body, hit_cycles)
+    } else {
+        0
+    };
     Outcome { refusal, time }
 }
 
-// "10, 8, 11 of the first, then of the second"
-fn alike(s: &[u8], body: &[u8], beside: &[u8]) -> bool {
-    let one = finished(body);
-    let other = finished(beside);
+// "10, 8, 11 of the first, then of the second", with 17 after 8
+fn alike(s: &[u8], body: &[u8], beside: &[u8], hit_cycles: u32) -> bool {
+    let one = finished(body, hit_cycles);
+    let other = finished(beside, hit_cycles);
     let refusal = if one.refusal == 0 {
         other.refusal
     } else {
@@ -78,12 +82,12 @@ fn alike(s: &[u8], body: &[u8], beside: &[u8]) -> bool {
     says(s, refusal, same as u32, 0)
 }
 
-fn bounded(call: u8, s: &[u8], deadline: u32, body: &[u8]) -> bool {
-    let refusal = model::body_refusal(body);
+fn bounded(call: u8, s: &[u8], deadline: u32, body: &[u8], hit_cycles: u32) -> bool {
+    let refusal = model::timed_refusal(body, hit_cycles);
     if refusal != 0 {
         return says(s, refusal, 0, 0);
     }
-    let found = model::bounds(body);
+    let found = model::bounds(body, hit_cycles);
     if call == b't' {
         return says(s, 0, found.best, found.worst);
     }
@@ -91,38 +95,45 @@ fn bounded(call: u8, s: &[u8], deadline: u32, body: &[u8]) -> bool {
 }
 
 // The refusals that come before 12.
-fn step(s: &[u8], body: &[u8]) -> bool {
-    let refusal = model::settled_refusal(body);
+fn step(s: &[u8], body: &[u8], hit_cycles: u32) -> bool {
+    let refusal = model::settled_refusal(body, hit_cycles);
     let told = first(s).value;
     (told == refusal) | ((refusal == 0) & (told == 12))
 }
 
 // Whether it answers the line as that says; a call with a capital is not asked of it, and one that it does
 // not know it does not answer.
-pub fn answers(call: u8, s: &[u8], argument: u32, body: &[u8], beside: &[u8]) -> bool {
+pub fn answers(
+    call: u8,
+    s: &[u8],
+    argument: u32,
+    body: &[u8],
+    beside: &[u8],
+    hit_cycles: u32,
+) -> bool {
     match call {
         b'o' => open(s, argument, body),
         b'w' => writes(s, body, beside, false),
-        b'j' => fills(s, argument, body, false),
+        b'j' => fills(s, argument, body, false, hit_cycles),
         b'c' => says(
             s,
             model::body_refusal(body),
-            model::settled_refusal(body),
+            model::settled_refusal(body, hit_cycles),
             0,
         ),
         b'v' => first(s).value == model::body_refusal(body),
-        b's' => step(s, body),
-        b't' | b'm' => bounded(call, s, argument, body),
-        b'r' => run(s, argument, body),
+        b's' => step(s, body, hit_cycles),
+        b't' | b'm' => bounded(call, s, argument, body, hit_cycles),
+        b'r' => run(s, argument, body, hit_cycles),
         b'f' => {
-            let found = finished(body);
+            let found = finished(body, hit_cycles);
             says(s, found.refusal, found.time, 0)
         }
         b'b' => {
-            let found = model_bus::bus_time(body, argument);
+            let found = model_bus::bus_time(body, argument, hit_cycles);
             says(s, found.refusal, found.accesses, found.time)
         }
-        b'a' => alike(s, body, beside),
+        b'a' => alike(s, body, beside, hit_cycles),
         _ => call < b'a',
     }
 }

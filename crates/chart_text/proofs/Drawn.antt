@@ -8,7 +8,7 @@ use lib.Dec.{eqb, leb}
 use lib.ListN.{length, take}
 use lib.Seq.{length-take-le}
 use Rattle.machine.proofs.Connectives.{Value, passed, failed, value}
-use Rattle.record.specs.Body.{traceOf}
+use Rattle.record.specs.Body.{traceWith}
 use Rattle.job.specs.Open.{openRefusal, openBody}
 use Rattle.text.specs.Text.{put, Wrote}
 use Rattle.chart_text.specs.Chart.{chartOf, chartText, longest, chartLength, chartOutput}
@@ -38,13 +38,13 @@ pub chart-refused : (file : List ℕ) → (openRefusal file 0 ≡ 0 → ⊥) →
 unfolding chartText
 chart-refused file h = rw (ne-eqb _ _ h)
 
-pub chart-given : (file : List ℕ) → openRefusal file 0 ≡ 0 → chartText file ≡ chartOf (traceOf (openBody file 0))
+pub chart-given : (file : List ℕ) → openRefusal file 0 ≡ 0 → chartText file ≡ chartOf (traceWith (openBody file 0) 0)
 unfolding chartText
 chart-given file e = rw e
 
 text-short : (file : List ℕ) → Value (eqb (openRefusal file 0) 0) → length (chartText file) ≤ longest
 unfolding chartText
-text-short file (passed e) = rw e (chart-short (traceOf (openBody file 0)))
+text-short file (passed e) = rw e (chart-short (traceWith (openBody file 0) 0))
 text-short file (failed e) =
     let short = refusal-short (openRefusal file 0) in
     rw e (omega arith)

@@ -1,35 +1,27 @@
 -- With h = 0 a body is refused, and its instructions stand and finish, as without h.
-use Prim.Native.Nat.{ℕ, _<_, zero-le}
-use mathlib.Core.Bool.{true}
+use Prim.Native.Nat.{ℕ}
 use mathlib.Core.List.{List}
 use mathlib.Core.Path.{_≡_, refl, sym, ap, subst, _∙_}
 use native.Mathlib.Decide.{ℕ-discrete}
-use native.Mathlib.Omega.{arith}
-use lib.ListN.{length}
-use Rattle.machine.specs.Instruction.{Flag, Instruction, Trace, instruction}
-use Rattle.machine.specs.Rules.{hasAccess}
+use Rattle.machine.specs.Instruction.{Flag, Trace}
 use Rattle.machine.specs.Time.{finish, settle, best, worst}
 use Rattle.machine.specs.Hits.{withHits}
 use Rattle.machine.specs.Before.{finishBefore}
 use Rattle.machine.specs.Claims.{AsBefore}
-use Rattle.machine.proofs.Hits.{hits-none, settle-hits}
+use Rattle.machine.proofs.Hits.{settle-hits}
 use Rattle.machine.proofs.Zero.{zero-is-before}
-use Rattle.record.specs.Rules.{kindOf, instructionOf}
-use Rattle.record.specs.Body.{Bytes, records, fieldsAt, traceOf, traceWith, bodyRefusal, unknownRefusal, hitRefusal, knownRefusal, timedRefusal, settledRefusal}
-use Rattle.record.proofs.Accepted.{fields-within, hits-of, access-latency}
-use Rattle.record.proofs.Instructions.{length-traceOf, instruction-traceOf}
+use Rattle.record.specs.Body.{Bytes, traceOf, traceWith, bodyRefusal, knownRefusal, timedRefusal, settledRefusal}
+use Rattle.record.proofs.Accepted.{zero-hits}
+use Rattle.record.proofs.Instructions.{trace-hits}
 use Rattle.record.proofs.Refusals.{then-none, then-some}
 use Rattle.claims.specs.Zero.{BodyAsBefore, ZeroAsBefore}
 
 module _ (body : List ℕ) (b : Bytes body) where
-  none-declined : bodyRefusal body ≡ 0 → hitRefusal body 0 ≡ 0
-  none-declined accepted = hits-of body 0 zero-le (λ k l e. access-latency body accepted b k l e)
-
   timed-refusal : timedRefusal body 0 ≡ bodyRefusal body
   unfolding timedRefusal
   timed-refusal =
       elim (ℕ-discrete (bodyRefusal body) 0) [
-        | yes z ↦ then-none _ _ z ∙ none-declined z ∙ sym z
+        | yes z ↦ then-none _ _ z ∙ zero-hits body z b ∙ sym z
         | no h ↦ then-some _ _ h
       ]
 
@@ -37,12 +29,8 @@ module _ (body : List ℕ) (b : Bytes body) where
   unfolding settledRefusal knownRefusal
   settled-refusal = rw timed-refusal
 
-  no-cycles : (k : ℕ) → k < length (traceOf body) → instruction (traceOf body) k .hitCycles ≡ 0
-  unfolding instructionOf
-  no-cycles k l = ap (λ (i : Instruction). i .hitCycles) (instruction-traceOf body k (omega (arith, length-traceOf body)))
-
   same : traceWith body 0 ≡ traceOf body
-  same = hits-none (traceOf body) no-cycles
+  same = trace-hits body
 
   before : AsBefore (traceOf body)
   before = subst AsBefore same (zero-is-before (traceOf body))

@@ -37,8 +37,8 @@ struct Turn {
     tally: Tally,
 }
 
-// Of the traces every fourth has unknown flags, a few have the longest latencies, and another fourth has
-// data latencies near h.
+// Of the traces every fourth has unknown flags, and a few have the longest latencies. By the dice one of
+// four has data latencies near h.
 fn style_of(k: u64, dice: Dice) -> Style {
     let long = k % 4001 == 0;
     let unknown = k % 4 == 3 && !long;

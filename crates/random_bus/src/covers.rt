@@ -27,11 +27,13 @@ pub struct Attained {
     pub gap: u32,
 }
 
-// Traces, and those of which every version was run; their versions, the rows of these, and the rows with an access
-// under way; what is attained, in all of which every version was run and in those with one missed access and no
-// unknown one; what does not hold.
+// Traces, those that 17 declined, and of the others those with h above 0 and those of which every version was run;
+// their versions, the rows of these, and the rows with an access under way; what is attained, in all of which every
+// version was run and in those with one missed access and no unknown one; what does not hold.
 pub struct Covers {
     pub traces: u32,
+    pub declined: u32,
+    pub with_hits: u32,
     pub whole: u32,
     pub versions: u32,
     pub rows: u32,
@@ -52,6 +54,8 @@ fn none_attained() -> Attained {
 pub fn no_covers() -> Covers {
     Covers {
         traces: 0,
+        declined: 0,
+        with_hits: 0,
         whole: 0,
         versions: 0,
         rows: 0,
@@ -92,11 +96,12 @@ fn with_version(
     length: usize,
     stages: &mut [u8],
     counts: &mut [u32],
+    hit_cycles: u32,
 ) -> Outcome {
     let body = first(out, length);
-    let seen = model_bus::watch(body, stages, counts);
-    let answer = finish(body);
-    let ours = watch(body, seen.rows);
+    let seen = model_bus::watch(body, stages, counts, hit_cycles);
+    let answer = finish(body, hit_cycles);
+    let ours = watch(body, seen.rows, hit_cycles);
     let left = model::all_left(body, stages);
     let same = (answer.refusal == 0) & (answer.time == seen.rows) & (ours.rows == seen.busy);
     Outcome {
@@ -118,6 +123,7 @@ fn all_versions(
     out: &mut [u8],
     stages: &mut [u8],
     counts: &mut [u32],
+    hit_cycles: u32,
 ) -> Outcome
     requires { ⌜ (wait < 65536) × (from ≤ 4000000000) ⌝ }
 {
@@ -129,7 +135,7 @@ fn all_versions(
         if every & (left != 0) {
             return c;
         }
-        c = with_version(c, out, body.len(), stages, counts);
+        c = with_version(c, out, body.len(), stages, counts, hit_cycles);
         choice += 1;
     }
     c
@@ -151,13 +157,22 @@ fn first_choice(d: Dice, every: bool) -> u32
     part(d, 8, 65536) * 61000 + part(d, 24, 65536) % 61000
 }
 
-fn covered(body: &[u8], wait: u32, from: u32, every: bool) -> Outcome
+fn covered(body: &[u8], wait: u32, from: u32, every: bool, hit_cycles: u32) -> Outcome
     requires { ⌜ (wait < 65536) × (from ≤ 4000000000) ⌝ }
 {
     let mut out = [0u8; 120];
     let mut stages = [0u8; 12];
     let mut counts = [0u32; 12];
-    all_versions(body, wait, from, every, &mut out, &mut stages, &mut counts)
+    all_versions(
+        body,
+        wait,
+        from,
+        every,
+        &mut out,
+        &mut stages,
+        &mut counts,
+        hit_cycles,
+    )
 }
 
 // No version finishes later than the time given, and none has two accesses under way. The time given is the greatest
@@ -179,20 +194,34 @@ fn with_gap(a: Attained, gap: u32, asked: bool) -> Attained {
     }
 }
 
+// With a trace more that 17 declines: there is no time to cover.
+fn with_declined(t: Covers, right: bool) -> Covers {
+    let mut u = t;
+    u.traces = more(t.traces, 1);
+    u.declined = more(t.declined, 1);
+    u.wrong = one_more_if(t.wrong, !right);
+    u
+}
+
 // The versions for a wait from 0 to 3. Whether the time given is attained is asked where every version is run and
 // there is something to add.
-pub fn cover_turn(body: &[u8], d: Dice, t: Covers) -> Covers {
+pub fn cover_turn(body: &[u8], d: Dice, hit_cycles: u32, t: Covers) -> Covers {
     let accesses = model_bus::accesses(body);
     let every = accesses <= FEW;
     let wait = part(d, 15, 4) % 4;
-    let given = bus_time(body, wait as u16);
-    let c = covered(body, wait, first_choice(d, every), every);
+    let given = bus_time(body, wait as u16, hit_cycles);
+    if model::hit_refusal(body, hit_cycles) != 0 {
+        return with_declined(t, given.refusal == 17);
+    }
+    let c = covered(body, wait, first_choice(d, every), every, hit_cycles);
     let right = (given.refusal == 0) & holds(c, given.time, every & (wait == 0));
     let gap = above(given.time, c.greatest);
     let asked = every & (accesses > 0) & (wait > 0);
     let single = asked & (accesses == 1) & (model::unknowns(body) == 0);
     Covers {
         traces: more(t.traces, 1),
+        declined: t.declined,
+        with_hits: one_more_if(t.with_hits, hit_cycles > 0),
         whole: one_more_if(t.whole, every),
         versions: more(t.versions, c.versions),
         rows: more(t.rows, c.rows),

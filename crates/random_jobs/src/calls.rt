@@ -9,11 +9,18 @@ use std::num::wrapping_sub_u32;
 use whole_job::worst_times;
 
 // The second model's call, with room for traces of at most four records.
-fn second(file: &[u8], times: &mut [u32]) -> model_job::WholeJob {
+fn second(file: &[u8], times: &mut [u32], hit_cycles: u32) -> model_job::WholeJob {
     let mut settled = [0u8; 40];
     let mut stages = [0u8; 4];
     let mut counts = [0u32; 4];
-    model_job::worst_times_in(file, times, &mut settled, &mut stages, &mut counts)
+    model_job::worst_times_in(
+        file,
+        times,
+        &mut settled,
+        &mut stages,
+        &mut counts,
+        hit_cycles,
+    )
 }
 
 // The engine's answer, whether the model's differs, in a place of the list or beyond it too, and how many of all
@@ -27,11 +34,17 @@ struct Outcome {
 }
 
 // The list is the first n places.
-fn outcome_of(file: &[u8], traces: u32, n: usize, former: [u32; 20]) -> Outcome {
+fn outcome_of(
+    file: &[u8],
+    traces: u32,
+    n: usize,
+    former: [u32; 20],
+    hit_cycles: u32,
+) -> Outcome {
     let mut ours = former;
     let mut theirs = former;
-    let answer = worst_times(file, lent(&mut ours, n));
-    let told = second(file, lent(&mut theirs, n));
+    let answer = worst_times(file, lent(&mut ours, n), hit_cycles);
+    let told = second(file, lent(&mut theirs, n), hit_cycles);
     let unequal = (answer.refusal != told.refusal) | (answer.traces != told.traces);
     Outcome {
         refusal: answer.refusal,
@@ -57,7 +70,7 @@ fn with_answer(t: Tally, o: Outcome, traces: u32) -> Tally {
     u.differ = one_more_if(t.differ, o.differs);
     u.wrong = one_more_if(t.wrong, !is_right(o, traces));
     let at = o.refusal as usize;
-    if at > 16 {
+    if at > 17 {
         return u;
     }
     u.seen[at] = more(u.seen[at], 1);
@@ -65,8 +78,15 @@ fn with_answer(t: Tally, o: Outcome, traces: u32) -> Tally {
 }
 
 // The list is the first n of 20 places with these values; the file was made of so many traces.
-pub fn call_turn(file: &[u8], traces: u32, n: usize, former: [u32; 20], t: Tally) -> Tally {
-    let o = outcome_of(file, traces, n, former);
+pub fn call_turn(
+    file: &[u8],
+    traces: u32,
+    n: usize,
+    former: [u32; 20],
+    hit_cycles: u32,
+    t: Tally,
+) -> Tally {
+    let o = outcome_of(file, traces, n, former, hit_cycles);
     let mut u = with_answer(t, o, traces);
     if o.refusal != 0 {
         u.unaltered = more(t.unaltered, o.same);
@@ -78,12 +98,25 @@ pub fn call_turn(file: &[u8], traces: u32, n: usize, former: [u32; 20], t: Tally
 }
 
 // With lists of just enough places, of three more, and of one too few.
-pub fn on_every_list(file: &[u8], traces: u32, former: [u32; 20], t: Tally) -> Tally {
+pub fn on_every_list(
+    file: &[u8],
+    traces: u32,
+    former: [u32; 20],
+    hit_cycles: u32,
+    t: Tally,
+) -> Tally {
     let all = traces as usize;
-    let exact = call_turn(file, traces, all, former, t);
-    let roomy = call_turn(file, traces, all + 3, former, exact);
+    let exact = call_turn(file, traces, all, former, hit_cycles, t);
+    let roomy = call_turn(file, traces, all + 3, former, hit_cycles, exact);
     if all == 0 {
         return roomy;
     }
-    call_turn(file, traces, all - 1, former, roomy)
+    call_turn(file, traces, all - 1, former, hit_cycles, roomy)
+}
+
+// What declines a file for which the list is long enough.
+pub fn refusal_of(file: &[u8], hit_cycles: u32) -> u32 {
+    let mut times = [0u32; 20];
+    let answer = worst_times(file, &mut times, hit_cycles);
+    answer.refusal
 }

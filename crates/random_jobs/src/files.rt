@@ -69,8 +69,18 @@ fn with_body(records: [u8; 800], at: usize, body: [u8; 120], n: usize) -> [u8; 8
     all
 }
 
+// How a trace of a job is drawn. One of sixteen has data latencies near h: 17 declines a job for one record of any trace.
+fn style_of(hit_cycles: u32, d: Dice) -> Style {
+    Style {
+        flags: 3,
+        long: false,
+        hit_cycles,
+        near: part(d, 20, 16) == 0,
+    }
+}
+
 // With trace k, where there is room for four records more.
-fn join_trace(before: Joined, k: u32) -> Joined {
+fn join_trace(before: Joined, k: u32, hit_cycles: u32) -> Joined {
     let at = before.length;
     if at > 640 {
         return before;
@@ -78,10 +88,7 @@ fn join_trace(before: Joined, k: u32) -> Joined {
     if k >= MAX_TRACES {
         return before;
     }
-    let style = Style {
-        flags: 3,
-        long: false,
-    };
+    let style = style_of(hit_cycles, rolled(before.dice));
     let draft = trace(before.dice, style);
     let dice = rolled(draft.dice);
     let n = how_many(draft.n, dice);
@@ -97,7 +104,7 @@ fn join_trace(before: Joined, k: u32) -> Joined {
     }
 }
 
-fn join_traces(traces: u32, dice: Dice) -> Joined {
+fn join_traces(traces: u32, dice: Dice, hit_cycles: u32) -> Joined {
     let mut joined = Joined {
         counts: [0; 16],
         records: room(),
@@ -106,7 +113,7 @@ fn join_traces(traces: u32, dice: Dice) -> Joined {
     };
     let mut k: u32 = 0;
     while k < traces {
-        joined = join_trace(joined, k);
+        joined = join_trace(joined, k, hit_cycles);
         k += 1;
     }
     joined
@@ -120,8 +127,8 @@ fn first_counts(counts: &[u16], n: usize) -> &[u16] {
 }
 
 // A file of so many traces.
-pub fn made(traces: u32, d: Dice) -> File {
-    let joined = join_traces(traces, d);
+pub fn made(traces: u32, d: Dice, hit_cycles: u32) -> File {
+    let joined = join_traces(traces, d, hit_cycles);
     let counts = joined.counts;
     let records = joined.records;
     let mut bytes = room();

@@ -8,6 +8,7 @@ mod tally;
 
 use calls::call_turn;
 use calls::on_every_list;
+use calls::refusal_of;
 use files::File;
 use files::damaged;
 use files::made;
@@ -18,6 +19,7 @@ use print::print;
 use random_traces::Dice;
 use random_traces::SEED;
 use random_traces::first;
+use random_traces::hits_from;
 use random_traces::one_more_if;
 use random_traces::part;
 use random_traces::rolled;
@@ -31,30 +33,46 @@ struct Turn {
     tally: Tally,
 }
 
-fn file_turn(file: File, traces: u32, t: Tally) -> Tally {
+fn file_turn(file: File, traces: u32, hit_cycles: u32, t: Tally) -> Tally {
     let bytes = file.bytes;
     let all: &[u8] = &bytes;
     on_every_list(
         first(all, file.length as usize),
         traces,
         former_values(file.dice),
+        hit_cycles,
         t,
     )
 }
 
-// A file whole, then the same damaged. It is counted only where Write made it.
+// The file is counted only where Write made it.
+fn counted(file: File, traces: u32, hit_cycles: u32, t: Tally) -> Tally {
+    let bytes = file.bytes;
+    let all: &[u8] = &bytes;
+    let refusal = refusal_of(first(all, file.length as usize), hit_cycles);
+    let mut tally = t;
+    tally.files = one_more_if(t.files, file.length != 0);
+    tally.empty = one_more_if(t.empty, traces == 0);
+    tally.full = one_more_if(t.full, traces == MAX_TRACES);
+    tally.declined = one_more_if(t.declined, refusal == 17);
+    tally.with_hits = one_more_if(t.with_hits, (refusal == 0) & (hit_cycles > 0));
+    tally
+}
+
+// A file whole, then the same damaged.
 fn one_more(before: Turn) -> Turn {
     let d = rolled(before.dice);
     let traces = part(d, 20, 17);
-    let file = made(traces, d);
+    let hit_cycles = hits_from(d);
+    let file = made(traces, d, hit_cycles);
     let hurt = damaged(file, traces);
-    let whole = file_turn(file, traces, before.tally);
-    let mut tally = file_turn(hurt, traces, whole);
-    tally.files = one_more_if(tally.files, file.length != 0);
-    tally.empty = one_more_if(tally.empty, traces == 0);
-    tally.full = one_more_if(tally.full, traces == MAX_TRACES);
+    let whole = file_turn(file, traces, hit_cycles, before.tally);
+    let both = file_turn(hurt, traces, hit_cycles, whole);
     let dice = hurt.dice;
-    Turn { dice, tally }
+    Turn {
+        dice,
+        tally: counted(file, traces, hit_cycles, both),
+    }
 }
 
 fn all_turns() -> Tally {
@@ -70,10 +88,10 @@ fn all_turns() -> Tally {
     all
 }
 
-// A file of one byte too many to open, with a list of three places.
+// A file of one byte too many to open, with a list of three places. It is declined for that, before 17 is.
 fn with_long_file(t: Tally) -> Tally {
     let file = too_long();
-    call_turn(&file, 0, 3, former_values(Dice { state: SEED }), t)
+    call_turn(&file, 0, 3, former_values(Dice { state: SEED }), 16, t)
 }
 
 fn main() {

@@ -14,9 +14,9 @@ fn refusal_line(number: u32, times: u32) {
     }
 }
 
-fn refusals(seen: [u32; 17]) {
+fn refusals(seen: [u32; 18]) {
     let mut i: u32 = 1;
-    while i < 17 {
+    while i < 18 {
         refusal_line(i, seen[i as usize]);
         i += 1;
     }
@@ -26,6 +26,8 @@ fn files(t: Tally) {
     count(t.files, b" job files, each whole and damaged\n");
     count(t.empty, b" of them without a trace, ");
     count(t.full, b" with 16\n");
+    count(t.declined, b" of them declined with 17 while whole, ");
+    count(t.with_hits, b" timed with h above 0\n");
 }
 
 fn places(t: Tally) {

@@ -1,6 +1,6 @@
 -- What is known of an accepted body: at most 4,096 records, all whole, each within the rules; no unknown flag, where those are refused too; and where
 -- 17 is given, that a data hit takes at most 15 cycles, and fewer than a load's or store's data latency.
-use Prim.Native.Nat.{ℕ, _+_, _*_, _%_, _≤_, _<_}
+use Prim.Native.Nat.{ℕ, zero-le, _+_, _*_, _%_, _≤_, _<_}
 use mathlib.Core.Bool.{Bool, true, false, cond, _&&_, _||_}
 use mathlib.Core.List.{List}
 use mathlib.Core.Path.{_≡_, refl, sym, ap, subst, _∙_}
@@ -184,3 +184,10 @@ module _ (body : List ℕ) (h : ℕ) where
   pub settled-of : knownRefusal body ≡ 0 → hitRefusal body h ≡ 0 → settledRefusal body h ≡ 0
   unfolding settledRefusal knownRefusal
   settled-of known hits = then-none _ _ (timed-of (then-first _ _ known) hits) ∙ then-second _ _ known
+
+-- with h = 0, 17 declines no accepted body
+pub zero-hits : (body : List ℕ) → bodyRefusal body ≡ 0 → Bytes body → hitRefusal body 0 ≡ 0
+zero-hits body accepted b = hits-of body 0 zero-le (access-latency body accepted b)
+
+pub zero-timed : (body : List ℕ) → bodyRefusal body ≡ 0 → Bytes body → timedRefusal body 0 ≡ 0
+zero-timed body accepted b = timed-of body 0 accepted (zero-hits body accepted b)

@@ -3,14 +3,16 @@
 use Prim.Native.Nat.{ℕ, zero, suc, _≤_, _<_}
 use mathlib.Core.List.{List, [], _∷_}
 use mathlib.Core.Logic.{⊎-elim}
-use mathlib.Core.Path.{_≡_, refl, sym, _∙_}
+use mathlib.Core.Path.{_≡_, refl, sym, ap, _∙_}
 use native.Mathlib.Nat.{le-of-suc-le-suc, not-suc-le-zero, eq-or-lt-of-le}
 use native.Mathlib.Omega.{arith}
 use lib.Dec.{ltb}
 use lib.ListN.{length, getD, length-append, List·getD-append, List·getD-eq-default}
 use lib.Seq.{getD-at}
 use borrow.Author.Tests.{ltb-true, ltb-false}
-use Rattle.machine.specs.Instruction.{Trace, instruction, blank}
+use Rattle.machine.specs.Instruction.{Instruction, Trace, instruction, blank}
+use Rattle.machine.specs.Hits.{withHits}
+use Rattle.machine.proofs.Hits.{hits-none}
 use Rattle.machine.proofs.Connectives.{Value, passed, failed, value}
 use Rattle.record.specs.Rules.{kindOf, flagOf, instructionOf}
 use Rattle.record.specs.Body.{records, fieldsAt, firsts, readAnswer, noFields, traceOf}
@@ -38,6 +40,12 @@ length-traceOf body = length-firsts _ (records body)
 pub instruction-traceOf : (body : List ℕ) (k : ℕ) → k < records body → instruction (traceOf body) k ≡ instructionOf (fieldsAt body k)
 unfolding traceOf
 instruction-traceOf body k l = getD-firsts _ (records body) k blank l
+
+-- none of its data hits takes cycles
+pub trace-hits : (body : List ℕ) → withHits 0 (traceOf body) ≡ traceOf body
+unfolding instructionOf
+trace-hits body =
+    hits-none (traceOf body) λ k l. ap (λ (i : Instruction). i .hitCycles) (instruction-traceOf body k (omega (arith, length-traceOf body)))
 
 past : (trace : Trace) (k : ℕ) → length trace ≤ k → instruction trace k ≡ blank
 past trace k h = List·getD-eq-default trace blank h

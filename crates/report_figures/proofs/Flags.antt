@@ -6,6 +6,7 @@ use native.Mathlib.Omega.{arith}
 use borrow.Author.Tests.{ne-eqb}
 use lib.ListN.{length}
 use Rattle.machine.specs.Instruction.{Flag, hit, miss, unknown, Instruction, Trace}
+use Rattle.machine.specs.Hits.{withHits}
 use Rattle.record.specs.Rules.{flagOf}
 use Rattle.report_figures.specs.Figures.{isUnknown, unknownFlags}
 
@@ -29,6 +30,12 @@ unfolding isUnknown
 one-at-most hit = omega arith
 one-at-most miss = omega arith
 one-at-most unknown = omega arith
+
+-- the cycles of a data hit are no matter of it
+pub unknown-hits : (h : ℕ) (trace : Trace) → unknownFlags (withHits h trace) ≡ unknownFlags trace
+unfolding withHits unknownFlags
+unknown-hits h [] = refl
+unknown-hits h (i ∷ trace) = let rest = unknown-hits h trace in omega arith
 
 pub unknown-few : (trace : Trace) → unknownFlags trace ≤ 2 * length trace
 unfolding unknownFlags

@@ -9,12 +9,13 @@ use native.Mathlib.Omega.{arith}
 use lib.ListN.{length, getD, take, drop, length-drop, length-map}
 use lib.Seq.{take-all, take-at, take-add, drop-drop, drop-append-add, ext-getD}
 use Rattle.machine.specs.Instruction.{Trace}
+use Rattle.machine.specs.Hits.{withHits}
 use Rattle.record.specs.Layout.{recordSize}
 use Rattle.record.specs.Body.{Bytes, records, firsts, traceOf}
 use Rattle.encoding.specs.Encoding.{bodyOf}
-use Rattle.record.proofs.Instructions.{length-firsts, getD-firsts}
+use Rattle.record.proofs.Instructions.{length-firsts, getD-firsts, trace-hits}
 use Rattle.encoding.proofs.Encoding.{length-bodyOf}
-use Rattle.encoding.proofs.RoundTrip.{accepted-is-encoded, trace-again}
+use Rattle.encoding.proofs.RoundTrip.{accepted-is-encoded, timed-again}
 use Rattle.job.specs.Layout.{traces, countAt, entryAt, before, startAt, bodyAt, recordsOf}
 use Rattle.job.specs.Open.{fileRefusal, openBody}
 use Rattle.job.proofs.Accepted.{FileFine, file-fine, open-accepted}
@@ -151,16 +152,23 @@ encoded-whole [] k l = absurd (not-suc-le-zero l)
 encoded-whole (trace ∷ list) zero l = let e = length-bodyOf trace in omega arith
 encoded-whole (trace ∷ list) (suc k) l = encoded-whole list k (le-of-suc-le-suc l)
 
-traces-again : (list : List Trace) → map traceOf (map bodyOf list) ≡ list
-traces-again [] = refl
-traces-again (trace ∷ list) = ap₂ (λ (first : Trace) (rest : List Trace). first ∷ rest) (trace-again trace) (traces-again list)
+traces-again : (h : ℕ) (list : List Trace) → map (withHits h) (map traceOf (map bodyOf list)) ≡ map (withHits h) list
+traces-again h [] = refl
+traces-again h (trace ∷ list) = ap₂ (λ (first : Trace) (rest : List Trace). first ∷ rest) (timed-again trace h) (traces-again h list)
+
+-- the traces of bodies are as they are with data hits that take no cycles
+pub traces-hits : (bodies : List (List ℕ)) → map (withHits 0) (map traceOf bodies) ≡ map traceOf bodies
+traces-hits [] = refl
+traces-hits (body ∷ bodies) = ap₂ (λ (first : Trace) (rest : List Trace). first ∷ rest) (trace-hits body) (traces-hits bodies)
 
 pub traces-round-trip : TracesRoundTrip
 traces-round-trip =
     record {
       written = λ list room e. (
         round-trip .written (countsIn (map bodyOf list)) (joined (map bodyOf list)) room e .0,
-        ap (map traceOf) (bodies-again (map bodyOf list) (encoded-whole list) room e) ∙ traces-again list,
+        λ h.
+            ap (λ (bodies : List (List ℕ)). map (withHits h) (map traceOf bodies)) (bodies-again (map bodyOf list) (encoded-whole list) room e)
+            ∙ traces-again h list,
       );
       read = λ file bytes e.
           let again = round-trip .read file bytes e in (

@@ -4,6 +4,7 @@ use mathlib.Core.List.{List, [], _∷_, _++_, map}
 use mathlib.Core.Path.{_≡_}
 use lib.ListN.{length, take, drop}
 use Rattle.machine.specs.Instruction.{Trace}
+use Rattle.machine.specs.Hits.{withHits}
 use Rattle.record.specs.Layout.{recordSize}
 use Rattle.record.specs.Body.{Bytes, records, firsts, traceOf}
 use Rattle.encoding.specs.Encoding.{bodyOf}
@@ -58,11 +59,12 @@ bodiesRefusal bodies room = writeRefusal (countsIn bodies) (joined bodies) room
 
 -- The same over traces and the bodies that Open hands back.
 pub record TracesRoundTrip : Type 0 where
-  -- "A written job file reads back as the same traces"
+  -- "A written job file reads back as the same traces", whatever the cycles of a data hit with which they are timed, which no file has
   pub written :
       (list : List Trace) (room : ℕ) →
       bodiesRefusal (map bodyOf list) room ≡ 0 →
-      (fileRefusal (fileOfBodies (map bodyOf list)) ≡ 0) × (tracesOf (fileOfBodies (map bodyOf list)) ≡ list)
+      (fileRefusal (fileOfBodies (map bodyOf list)) ≡ 0)
+      × ((h : ℕ) → map (withHits h) (tracesOf (fileOfBodies (map bodyOf list))) ≡ map (withHits h) list)
   -- "and an accepted file is what the writer makes of its traces": of the bodies that Open hands back, which are those of its traces
   pub read :
       (file : List ℕ) →

@@ -7,7 +7,8 @@ use lib.ListN.{length}
 use Rattle.machine.specs.Instruction.{miss}
 use Rattle.machine.specs.Time.{settle}
 use Rattle.record.specs.Rules.{flagOf}
-use Rattle.record.specs.Body.{traceOf}
+use Rattle.record.specs.Body.{traceWith}
+use Rattle.record.proofs.Accepted.{zero-timed}
 use Rattle.running.proofs.RunAnswer.{state-ran}
 use Rattle.text.specs.Text.{Wrote}
 use Rattle.chart_lines.specs.Lines.{rowText}
@@ -18,7 +19,7 @@ use Rattle.chart_rows.proofs.rows.put_rows.Statement.{statement}
 use Rattle.chart_rows.proofs.rows.put_rows.Tie as tie
 
 abbrev Inv-loop : tie.InvT-loop
-Inv-loop body out₀ at last next₀ cycle₀ out next cycle = (cycle ≤ suc last) × (length out ≡ length out₀) × Wrote at (rowsText (settle miss (traceOf body)) cycle) out₀ out next
+Inv-loop body out₀ at last next₀ cycle₀ out next cycle = (cycle ≤ suc last) × (length out ≡ length out₀) × Wrote at (rowsText (settle miss (traceWith body 0)) cycle) out₀ out next
 
 abbrev μ-loop : tie.MeasureT-loop
 μ-loop body out₀ at last next₀ cycle₀ out next cycle = suc last - cycle
@@ -28,13 +29,15 @@ unfolding rowsText
 loop-holds c = (omega arith, refl, wrote-nothing _ _ (omega (arith, c .before .before .pre .2)))
 
 run-settled-requires : tie.Need-run-settled-requires Inv-loop μ-loop
-run-settled-requires c κs = c .before .before .before .before .pre .0
+run-settled-requires c κs =
+    let known = c .before .before .before in
+    zero-timed _ (known .before .pre .0) (λ n. known .shared-slice-known .given n .fits)
 
 put-row-requires : tie.Need-put-row-requires Inv-loop μ-loop
 put-row-requires c κs =
     let loop = c .before .before .before .loop in
     let entry = c .before .before .before .before .before .before in
-    let short = rows-short (settle miss (traceOf (entry .args .body .now))) (loop .cycle) in
+    let short = rows-short (settle miss (traceWith (entry .args .body .now) 0)) (loop .cycle) in
     let i = loop .inv in
     omega (arith, i .1, i .2, c .before .before .loop-test .taken, entry .pre .1, entry .pre .2)
 
@@ -48,7 +51,7 @@ loop-again : tie.Need-loop-again Inv-loop μ-loop
 unfolding rowsText flagOf
 loop-again c =
     let loop = c .before .before .before .before .before .before .loop in
-    let trace = settle miss (traceOf (c .before .before .before .before .before .before .before .before .before .args .body .now)) in
+    let trace = settle miss (traceWith (c .before .before .before .before .before .before .before .before .before .args .body .now) 0) in
     let n = loop .cycle in
     let row = as-text _ _ (ap (rowText n) (state-ran trace n (c .before .before .before .before .run-settled .ensures))) (c .before .before .put-row .ensures) in (
       omega (arith, c .before .before .before .before .before .loop-test .taken),
@@ -64,7 +67,7 @@ returns c =
     let entry = c .before .before .before .before in
     let i = c .before .loop .inv in
     let e : c .before .loop .cycle ≡ suc (entry .args .last) = omega (arith, c .loop-test .left, i .0) in
-    as-text _ _ (ap (rowsText (settle miss (traceOf (entry .args .body .now)))) e) (i .2)
+    as-text _ _ (ap (rowsText (settle miss (traceWith (entry .args .body .now) 0))) e) (i .2)
 
 pub put-rows-spec : {M : Type 1} → statement M
 put-rows-spec =

@@ -2,7 +2,7 @@
 use Prim.Native.Nat.{ℕ}
 use mathlib.Core.List.{List}
 use mathlib.Core.Path.{sym, ap, _∙_}
-use Rattle.record.specs.Body.{traceOf, bodyRefusal}
+use Rattle.record.specs.Body.{traceWith, bodyRefusal}
 use Rattle.job.proofs.Part.{located, opened-accepted}
 use Rattle.chart_lines.specs.Lines.{refusalText}
 use Rattle.chart_text.specs.Chart.{chartOf}
@@ -56,7 +56,7 @@ returns-3 c =
     let room = found .before in
     let file = room .before .before .before .args .file .now in
     let at = located file 0 _ (found .locate .ensures) in
-    let body = ap (λ (body : List ℕ). chartOf (traceOf body)) (part .cut .ensures .0 ∙ at .1) in
+    let body = ap (λ (body : List ℕ). chartOf (traceWith body 0)) (part .cut .ensures .0 ∙ at .1) in
     drawn _ _ (room .if1 .left) (body ∙ sym (chart-given file (sym (at .0) ∙ test .if2 .left))) (c .before .before .draw-body .ensures)
 
 pub draw-spec : {M : Type 1} → statement M

@@ -5,7 +5,8 @@ use mathlib.Core.Path.{_≡_, ap, ap₂, _∙_}
 use native.Mathlib.Omega.{arith}
 use Rattle.machine.specs.Instruction.{miss}
 use Rattle.machine.specs.Time.{settle, best, worst}
-use Rattle.record.specs.Body.{traceOf, bodyRefusal}
+use Rattle.record.specs.Body.{traceWith, timedRefusal}
+use Rattle.record.proofs.Accepted.{zero-timed}
 use Rattle.timing.specs.Answers.{bestWorstAnswer}
 use Rattle.timing.specs.declared.calls.BestAndWorst.{BestAndWorst}
 use Rattle.chart_lines.specs.Lines.{timesText}
@@ -18,7 +19,7 @@ use Rattle.chart_text.proofs.chart.draw_body.Statement.{statement}
 use Rattle.chart_text.proofs.chart.draw_body.Tie as tie
 
 -- for an accepted body, Best and worst answers with the definition's times
-times-given : (body : List ℕ) → bodyRefusal body ≡ 0 → bestWorstAnswer body ≡ record { refusal = 0; best = best (traceOf body); worst = worst (traceOf body) }
+times-given : (body : List ℕ) → timedRefusal body 0 ≡ 0 → bestWorstAnswer body 0 ≡ record { refusal = 0; best = best (traceWith body 0); worst = worst (traceWith body 0) }
 unfolding bestWorstAnswer
 times-given body e = rw e
 
@@ -40,7 +41,7 @@ put-times-requires c κs =
     let last = rows .before .smaller in
     let header = rows .before .before .before .before .before in
     let entry = header .before .before .before .before .before in
-    let short = rows-short (settle miss (traceOf (entry .args .body .now))) (suc (last .result)) in
+    let short = rows-short (settle miss (traceWith (entry .args .body .now) 0)) (suc (last .result)) in
     omega
     (arith, entry .pre .1, header .put-header .ensures .0, header .put-header .kept .0, last .ensures, rows .put-rows .ensures .0, rows .put-rows .kept .1 .0)
 
@@ -55,8 +56,8 @@ returns c =
     let header = rows .before .before .before .before .before in
     let found = header .before .before in
     let entry = found .before .before .before in
-    let trace = traceOf (entry .args .body .now) in
-    let times = found .best-worst .ensures ∙ times-given _ (entry .pre .0) in
+    let trace = traceWith (entry .args .body .now) 0 in
+    let times = found .best-worst .ensures ∙ times-given _ (zero-timed _ (entry .pre .0) (λ n. found .before .before .shared-slice-known .given n .fits)) in
     let latest = ap (λ (t : BestAndWorst). t .worst) times in
     let earliest = ap (λ (t : BestAndWorst). t .best) times in
     let last = rows .before .smaller .ensures ∙ ap (λ (t : ℕ). min t lastRow) latest in

@@ -7,13 +7,13 @@ use Rattle.random.proofs.pairs.ordered_in.Statement.{statement}
 use Rattle.random.proofs.pairs.ordered_in.Tie as tie
 
 abbrev Inv-loop : tie.InvT-loop
-Inv-loop first second cycles stages₀ counts₀ later-stages₀ later-counts₀ n c₀ stages counts later-stages later-counts c =
+Inv-loop first second cycles stages₀ counts₀ later-stages₀ later-counts₀ hit-cycles n c₀ stages counts later-stages later-counts c =
     ((c ≤ cycles) × (cycles ≤ 4294967295))
     × (((length stages ≡ length stages₀) × (length counts ≡ length counts₀))
     × ((length later-stages ≡ length later-stages₀) × (length later-counts ≡ length later-counts₀)))
 
 abbrev μ-loop : tie.MeasureT-loop
-μ-loop first second cycles stages₀ counts₀ later-stages₀ later-counts₀ n c₀ stages counts later-stages later-counts c =
+μ-loop first second cycles stages₀ counts₀ later-stages₀ later-counts₀ hit-cycles n c₀ stages counts later-stages later-counts c =
     cycles - c
 
 size-requires : tie.Need-size-requires Inv-loop μ-loop

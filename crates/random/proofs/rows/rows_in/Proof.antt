@@ -7,10 +7,10 @@ use Rattle.random.proofs.rows.rows_in.Statement.{statement}
 use Rattle.random.proofs.rows.rows_in.Tie as tie
 
 abbrev Inv-loop : tie.InvT-loop
-Inv-loop body finish stages₀ counts₀ s₀ end cycle₀ stages counts s cycle = (cycle ≤ end) × ((length stages ≡ length stages₀) × (length counts ≡ length counts₀))
+Inv-loop body finish stages₀ counts₀ hit-cycles s₀ end cycle₀ stages counts s cycle = (cycle ≤ end) × ((length stages ≡ length stages₀) × (length counts ≡ length counts₀))
 
 abbrev μ-loop : tie.MeasureT-loop
-μ-loop body finish stages₀ counts₀ s₀ end cycle₀ stages counts s cycle = end - cycle
+μ-loop body finish stages₀ counts₀ hit-cycles s₀ end cycle₀ stages counts s cycle = end - cycle
 
 start-requires : tie.Need-start-requires Inv-loop μ-loop
 start-requires c κs = tt

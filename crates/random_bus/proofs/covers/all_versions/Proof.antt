@@ -7,10 +7,10 @@ use Rattle.random_bus.proofs.covers.all_versions.Statement.{statement}
 use Rattle.random_bus.proofs.covers.all_versions.Tie as tie
 
 abbrev Inv-loop : tie.InvT-loop
-Inv-loop body wait from every out₀ stages₀ counts₀ end c₀ choice₀ out stages counts c choice = (((choice ≤ end) × (end ≤ 4000000625)) × (wait < 65536)) × ((length out ≡ length out₀) × ((length stages ≡ length stages₀) × (length counts ≡ length counts₀)))
+Inv-loop body wait from every out₀ stages₀ counts₀ hit-cycles end c₀ choice₀ out stages counts c choice = (((choice ≤ end) × (end ≤ 4000000625)) × (wait < 65536)) × ((length out ≡ length out₀) × ((length stages ≡ length stages₀) × (length counts ≡ length counts₀)))
 
 abbrev μ-loop : tie.MeasureT-loop
-μ-loop body wait from every out₀ stages₀ counts₀ end c₀ choice₀ out stages counts c choice = end - choice
+μ-loop body wait from every out₀ stages₀ counts₀ hit-cycles end c₀ choice₀ out stages counts c choice = end - choice
 
 how-many-requires : tie.Need-how-many-requires Inv-loop μ-loop
 how-many-requires c κs = tt

@@ -5,10 +5,10 @@ use Rattle.random_bus.proofs.rows.watch.Statement.{statement}
 use Rattle.random_bus.proofs.rows.watch.Tie as tie
 
 abbrev Inv-loop : tie.InvT-loop
-Inv-loop body rows busy₀ cycle₀ busy cycle = cycle ≤ rows
+Inv-loop body rows hit-cycles busy₀ cycle₀ busy cycle = cycle ≤ rows
 
 abbrev μ-loop : tie.MeasureT-loop
-μ-loop body rows busy₀ cycle₀ busy cycle = rows - cycle
+μ-loop body rows hit-cycles busy₀ cycle₀ busy cycle = rows - cycle
 
 loop-holds : tie.Need-loop-holds Inv-loop μ-loop
 loop-holds c = omega arith

@@ -5,10 +5,10 @@ use Rattle.random_jobs.proofs.files.join_traces.Statement.{statement}
 use Rattle.random_jobs.proofs.files.join_traces.Tie as tie
 
 abbrev Inv-loop : tie.InvT-loop
-Inv-loop traces joined₀ k₀ joined k = k ≤ traces
+Inv-loop traces hit-cycles joined₀ k₀ joined k = k ≤ traces
 
 abbrev μ-loop : tie.MeasureT-loop
-μ-loop traces joined₀ k₀ joined k = traces - k
+μ-loop traces hit-cycles joined₀ k₀ joined k = traces - k
 
 room-requires : tie.Need-room-requires Inv-loop μ-loop
 room-requires c κs = tt

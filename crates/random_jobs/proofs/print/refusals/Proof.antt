@@ -5,10 +5,10 @@ use Rattle.random_jobs.proofs.print.refusals.Statement.{statement}
 use Rattle.random_jobs.proofs.print.refusals.Tie as tie
 
 abbrev Inv-loop : tie.InvT-loop
-Inv-loop seen i₀ i = i ≤ 17
+Inv-loop seen i₀ i = i ≤ 18
 
 abbrev μ-loop : tie.MeasureT-loop
-μ-loop seen i₀ i = 17 - i
+μ-loop seen i₀ i = 18 - i
 
 loop-holds : tie.Need-loop-holds Inv-loop μ-loop
 loop-holds c = omega arith

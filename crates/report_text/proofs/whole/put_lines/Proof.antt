@@ -14,16 +14,16 @@ use Rattle.report_text.proofs.whole.put_lines.Statement.{statement}
 use Rattle.report_text.proofs.whole.put_lines.Tie as tie
 
 abbrev Inv-loop : tie.InvT-loop
-Inv-loop file deadlines out₀ at all end₀ met₀ t₀ out end met t =
+Inv-loop file deadlines out₀ at all h end₀ met₀ t₀ out end met t =
     (t ≤ all)
-    × (met ≡ metBelow file deadlines t)
+    × (met ≡ metBelow file deadlines h t)
     × (met ≤ t)
     × (length out ≡ length out₀)
     × (end ≡ at + lineBytes * t)
-    × Wrote at (linesText file deadlines t) out₀ out end
+    × Wrote at (linesText file deadlines h t) out₀ out end
 
 abbrev μ-loop : tie.MeasureT-loop
-μ-loop file deadlines out₀ at all end₀ met₀ t₀ out end met t = all - t
+μ-loop file deadlines out₀ at all h end₀ met₀ t₀ out end met t = all - t
 
 loop-holds : tie.Need-loop-holds Inv-loop μ-loop
 unfolding linesText metBelow
@@ -39,7 +39,7 @@ put-line-requires c κs =
     let a = c₇ .args in
     let i = c₃ .loop .inv in
     let small =
-    line-small (a .file .now) (c₇ .pre .0) (a .deadlines .now) (c₃ .loop .t) (omega (arith, c .before .before .loop-test .taken, c₇ .pre .1))
+    line-small (a .file .now) (a .hit-cycles) (c₇ .pre .0) (a .deadlines .now) (c₃ .loop .t) (omega (arith, c .before .before .loop-test .taken, c₇ .pre .1))
     (c .before .line-at .ensures) in
     (small .0, small .1, omega (arith, i .3, i .4, c .before .before .loop-test .taken, c₇ .pre .2))
 
@@ -51,13 +51,13 @@ add-met c =
     let c₆ = c .before .before .before .before .before .before in
     let c₇ = c₆ .before in
     let c₁₁ = c₇ .before .before .before .before in
-    omega (arith, c₇ .loop .inv .2, c .met-by .ensures .1, c₆ .loop-test .taken, few-traces _ (c₁₁ .pre .0), c₁₁ .pre .1)
+    omega (arith, c₇ .loop .inv .2, c .met-by .ensures .1, c₆ .loop-test .taken, few-traces _ _ (c₁₁ .pre .0), c₁₁ .pre .1)
 
 add-t : tie.Need-add-t Inv-loop μ-loop
 add-t c =
     let c₆ = c .before .before .before .before .before .before in
     let c₁₁ = c₆ .before .before .before .before .before in
-    omega (arith, c₆ .loop-test .taken, few-traces _ (c₁₁ .pre .0), c₁₁ .pre .1)
+    omega (arith, c₆ .loop-test .taken, few-traces _ _ (c₁₁ .pre .0), c₁₁ .pre .1)
 
 loop-less : tie.Need-loop-less Inv-loop μ-loop
 loop-less c = omega (arith, c .before .before .before .before .before .before .loop-test .taken)
@@ -77,11 +77,11 @@ loop-again c =
     let i = c₇ .loop .inv in
     let line = c₅ .line-at .ensures in (
       omega (arith, c₆ .loop-test .taken),
-      ap₂ (λ (m n : ℕ). m + n) (i .1) (c .met-by .ensures .0 ∙ ap met line) ∙ ap (metBelow file deadlines) (sym (add-one t)),
+      ap₂ (λ (m n : ℕ). m + n) (i .1) (c .met-by .ensures .0 ∙ ap met line) ∙ ap (metBelow file deadlines (a .hit-cycles)) (sym (add-one t)),
       omega (arith, i .2, c .met-by .ensures .1),
       c₃ .put-line .kept .0 ∙ i .3,
       omega (arith, i .4, c₃ .put-line .ensures .0),
-      as-text _ _ (ap (linesText file deadlines) (sym (add-one t)))
+      as-text _ _ (ap (linesText file deadlines (a .hit-cycles)) (sym (add-one t)))
           (wrote-then _ _ _ _ (i .5) (as-text _ _ (ap lineText line) (c₃ .put-line .ensures .1))),
     )
 
@@ -94,9 +94,9 @@ returns c =
     let a = c₅ .args in
     let i = c .before .loop .inv in
     let end : c .before .loop .t ≡ a .all = omega (arith, c .loop-test .left, i .0) in (
-      i .1 ∙ ap (metBelow (a .file .now) (a .deadlines .now)) end,
+      i .1 ∙ ap (metBelow (a .file .now) (a .deadlines .now) (a .hit-cycles)) end,
       i .4 ∙ ap (λ (n : ℕ). a .at + lineBytes * n) end,
-      as-text _ _ (ap (linesText (a .file .now) (a .deadlines .now)) end) (i .5),
+      as-text _ _ (ap (linesText (a .file .now) (a .deadlines .now) (a .hit-cycles)) end) (i .5),
     )
 
 pub put-lines-spec : {M : Type 1} → statement M
