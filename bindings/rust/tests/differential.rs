@@ -350,7 +350,7 @@ fn unknown_agree(dice: &mut Dice) -> (u64, bool) {
     (settlings + waiting, refused)
 }
 
-/// How many traces were compared, and how many of the three that the round begins with are refused with 17: about one in six.
+/// How many traces were compared, and how many of the three that the round begins with are refused with 17: about one in nine.
 fn one_round(seed: u64) -> (u64, u64) {
     let mut dice = Dice(seed.wrapping_mul(0x9e3779b97f4a7c15) | 1);
     let refused = known_agree(&mut dice);

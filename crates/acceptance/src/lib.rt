@@ -79,12 +79,12 @@ pub fn record_refusal(body: &[u8]) -> u32
 pub fn hit_refusal(body: &[u8], hit_cycles: u32) -> u32
     ensures { λ r. ⌜ r ≡ hitRefusal (now (body .entry)) «hit_cycles» ⌝ }
 {
-    let records = body.len() / RECORD_SIZE;
     if hit_cycles > MAX_HIT_CYCLES {
         return LONG_HIT;
     }
+    let all = body.len() / RECORD_SIZE;
     let mut k = 0;
-    while k < records {
+    while k < all {
         if not_above_from(body, k * RECORD_SIZE, hit_cycles) {
             return LONG_HIT;
         }
@@ -108,9 +108,9 @@ pub fn body_refusal(body: &[u8]) -> u32
 pub fn timed_refusal(body: &[u8], hit_cycles: u32) -> u32
     ensures { λ r. ⌜ r ≡ timedRefusal (now (body .entry)) «hit_cycles» ⌝ }
 {
-    let fault = length_refusal(body);
-    if fault != 0 {
-        return fault;
+    let wrong = length_refusal(body);
+    if wrong != 0 {
+        return wrong;
     }
     let found = scan_refusal(body, hit_cycles);
     if found == UNKNOWN_FLAG {

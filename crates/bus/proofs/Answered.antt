@@ -1,7 +1,7 @@
 -- What the call gives is its answer: on a refusal, and with the count and the worst time that the passes give; and that time fits 32 bits.
 use Prim.Native.Nat.{ℕ, _+_, _*_, _≤_}
 use mathlib.Core.List.{List}
-use mathlib.Core.Path.{_≡_, refl, _∙_}
+use mathlib.Core.Path.{_≡_, refl, sym, _∙_}
 use native.Mathlib.Nat.{mul-le-mul}
 use native.Mathlib.Omega.{arith}
 use borrow.Author.Tests.{eq-eqb, ne-eqb, eqb-true}
@@ -12,7 +12,7 @@ use Rattle.machine.specs.Time.{finish, settle, worst}
 use Rattle.machine.specs.Bus.{accesses, busTime}
 use Rattle.machine.proofs.Connectives.{Value, passed, failed, value}
 use Rattle.record.specs.Rules.{flagOf}
-use Rattle.record.specs.Body.{Bytes, traceOf, traceWith, timedRefusal}
+use Rattle.record.specs.Body.{Bytes, traceOf, traceWith, bodyRefusal, timedRefusal}
 use Rattle.record.proofs.Accepted.{few-records, timed-accepted}
 use Rattle.record.proofs.Instructions.{length-traceOf}
 use Rattle.record.proofs.Refusals.{then-first}
@@ -35,6 +35,10 @@ module _ (body : List ℕ) (wait h : ℕ) where
       _≡_ {A = TimeOnBus} (record { refusal = 0; accesses = n; time = w + n * wait }) (busAnswer body wait h)
   unfolding busAnswer busTime worst flagOf
   given z p q = rw (p, q, eq-eqb (busRefusal body wait h) 0 z, accesses-hits h (traceOf body))
+
+-- the accesses are counted of a body that none of 10, 8 and 17 declines
+pub accepted-by : (body : List ℕ) (h r : ℕ) → r ≡ timedRefusal body h → r ≡ 0 → bodyRefusal body ≡ 0
+accepted-by body h r e z = timed-accepted body h (sym e ∙ z)
 
 -- the time of an accepted body is within the greatest
 pub sum-fits : (body : List ℕ) (h : ℕ) → Bytes body → timedRefusal body h ≡ 0 → (wait : ℕ) → wait ≤ maxWait → {n w : ℕ} →

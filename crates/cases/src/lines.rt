@@ -65,7 +65,7 @@ fn line(s: &[u8], call: u8, tally: Tally, bytes: &mut [u8]) -> Tally {
 }
 
 pub fn each_line(s: &[u8], bytes: &mut [u8])
-    requires { ⌜ length (now s) ≤ 800000 ⌝ }
+    requires { ⌜ length (now s) ≤ 900000 ⌝ }
 {
     let mut tally = Tally { tried: 0, right: 0 };
     let mut at = 0;

@@ -21,10 +21,10 @@ ghost use lib.ListN.{length};
 
 // Room for all lines, for the bytes of a case and those beside them, or for an output, and what that holds
 // before. The contract gives only the length: what the array holds would be carried along at a cost.
-fn room() -> [u8; 800000]
-    ensures { λ r. ⌜ 800000 ≡ length r ⌝ }
+fn room() -> [u8; 900000]
+    ensures { λ r. ⌜ 900000 ≡ length r ⌝ }
 {
-    [165; 800000]
+    [165; 900000]
 }
 
 fn main() {

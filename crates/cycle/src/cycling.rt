@@ -88,7 +88,13 @@ fn slots_after(s: State, w: Standing, moving: Bits, store: bool, hit_cycles: u32
         IF: slot_after(moving.pre, s.fetched, count_in_if(w.pre), moving.IF, s.IF),
         ID: slot_after(moving.IF, s.IF.index, 0, moving.ID, s.ID),
         EX: slot_after(moving.ID, s.ID.index, w.ID.execution, moving.EX, s.EX),
-        MEM: slot_after(moving.EX, s.EX.index, count_in_mem(w.EX, hit_cycles), moving.MEM, s.MEM),
+        MEM: slot_after(
+            moving.EX,
+            s.EX.index,
+            count_in_mem(w.EX, hit_cycles),
+            moving.MEM,
+            s.MEM,
+        ),
         ST: slot_after(
             moving.MEM & store,
             s.MEM.index,

@@ -104,9 +104,7 @@ FinishBounded = (trace : Trace) → finish trace ≤ bound trace
 -- finishes earlier." Document 02, F-4: "meant for one h throughout and for traces that 17 does not decline with it".
 abbrev pub Ordered : Type 0
 Ordered =
-    (h : ℕ) (first second : Trace) →
-    HitsTake h first →
-    HitsTake h second →
+    (h : ℕ) (first second : Trace) → HitsTake h first → HitsTake h second →
     Slower first second →
     ((t i : ℕ) → i < length first → further (after second t i) (after first t i) ≡ false) × (finish first ≤ finish second)
 

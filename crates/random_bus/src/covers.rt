@@ -2,13 +2,16 @@
 // added wait from 0 to d on each missed access" (document 02, F-1).
 use crate::counts::above;
 use crate::counts::greater;
+use crate::rows::Busy;
 use crate::rows::watch;
 use bus::bus_time;
+use model_bus::Watched;
 use random_traces::Dice;
 use random_traces::first;
 use random_traces::more;
 use random_traces::one_more_if;
 use random_traces::part;
+use timing::Finished;
 use timing::finish;
 ghost use Prim.Native.Nat.{_<_, _≤_};
 
@@ -89,6 +92,20 @@ fn no_version() -> Outcome {
     }
 }
 
+// With a version more: its rows by the model and by the engine, the engine's answer, and whether by the model all have
+// left at its end.
+fn with_rows(c: Outcome, seen: Watched, ours: Busy, answer: Finished, left: bool) -> Outcome {
+    let same = (answer.refusal == 0) & (answer.time == seen.rows) & (ours.rows == seen.busy);
+    Outcome {
+        versions: more(c.versions, 1),
+        greatest: greater(c.greatest, answer.time),
+        rows: more(c.rows, seen.rows),
+        busy: more(c.busy, seen.busy),
+        most: greater(c.most, greater(seen.most, ours.most)),
+        agree: c.agree & left & same,
+    }
+}
+
 // With the version that stands in the first bytes of `out`.
 fn with_version(
     c: Outcome,
@@ -100,18 +117,9 @@ fn with_version(
 ) -> Outcome {
     let body = first(out, length);
     let seen = model_bus::watch(body, stages, counts, hit_cycles);
-    let answer = finish(body, hit_cycles);
     let ours = watch(body, seen.rows, hit_cycles);
     let left = model::all_left(body, stages);
-    let same = (answer.refusal == 0) & (answer.time == seen.rows) & (ours.rows == seen.busy);
-    Outcome {
-        versions: more(c.versions, 1),
-        greatest: greater(c.greatest, answer.time),
-        rows: more(c.rows, seen.rows),
-        busy: more(c.busy, seen.busy),
-        most: greater(c.most, greater(seen.most, ours.most)),
-        agree: c.agree & left & same,
-    }
+    with_rows(c, seen, ours, finish(body, hit_cycles), left)
 }
 
 // Every version or, from a choice on, some; each with its rows and its finishing time, by the engine and by the model.

@@ -40,13 +40,7 @@ struct Turn {
 }
 
 // The answer for a wait from the whole range, to a body near the border of 15, and to the same damaged.
-fn border_turn(
-    bytes: [u8; 120],
-    draft: Draft,
-    rare: bool,
-    hit_cycles: u32,
-    before: Calls,
-) -> Calls
+fn border_turn(bytes: [u8; 120], draft: Draft, rare: bool, hit_cycles: u32, before: Calls) -> Calls
     requires { ⌜ «hit_cycles» < 17 ⌝ }
 {
     let d = rolled(draft.dice);

@@ -34,13 +34,7 @@ struct Outcome {
 }
 
 // The list is the first n places.
-fn outcome_of(
-    file: &[u8],
-    traces: u32,
-    n: usize,
-    former: [u32; 20],
-    hit_cycles: u32,
-) -> Outcome {
+fn outcome_of(file: &[u8], traces: u32, n: usize, former: [u32; 20], hit_cycles: u32) -> Outcome {
     let mut ours = former;
     let mut theirs = former;
     let answer = worst_times(file, lent(&mut ours, n), hit_cycles);

@@ -30,6 +30,6 @@ wrongLength = 10
 abbrev pub unknownFlag : ℕ
 unknownFlag = 11
 
--- document 02, F-4: "17, after 8: h above 15, or a load or store whose data latency is not above h"
+-- "17, after 8: h above 15, or a load or store whose data latency is not above h"
 abbrev pub longHit : ℕ
 longHit = 17

@@ -9,7 +9,13 @@ fn say(text: &[u8]) {
 
 pub(crate) fn usage() {
     say(
-        b"usage: report DEADLINE... <FILE: one deadline for all traces of the job file, or one for each, in cycles\n",
+        b"usage: report [--hit-cycles N] DEADLINE... <FILE: one deadline for all traces of the job file, or one for each, in cycles; a data hit takes N cycles, 0 where the option is not given\n",
+    );
+}
+
+pub(crate) fn no_cycles() {
+    say(
+        b"argument 2 is not a number of cycles: after --hit-cycles comes a whole number from 0 to 15\n",
     );
 }
 
@@ -51,6 +57,9 @@ fn reason(number: u32) {
         ),
         7 => say(
             b"the file does not end with its last body; it was cut, or has bytes after its last body\n",
+        ),
+        17 => say(
+            b"a data hit takes more than 15 cycles, or no fewer than a load's or store's data latency; give fewer hit cycles, or the latencies of the same core\n",
         ),
         _ => say(
             b"a record breaks its rules; compare it with the table of the record in docs/FORMAT.md\n",

@@ -45,7 +45,14 @@ struct Lines {
     met: u32,
 }
 
-fn put_lines(file: &[u8], deadlines: &[u32], out: &mut [u8], at: usize, all: u32, hit_cycles: u32) -> Lines
+fn put_lines(
+    file: &[u8],
+    deadlines: &[u32],
+    out: &mut [u8],
+    at: usize,
+    all: u32,
+    hit_cycles: u32,
+) -> Lines
     requires { ⌜ (timedFileRefusal (now file) «hit_cycles» ≡ 0) × (all ≡ traces (now file)) × (at + lineBytes * all ≤ length (now out)) ⌝ }
     ensures { λ r. ⌜ (r .met ≡ metBelow (now (file .entry)) (now (deadlines .entry)) «hit_cycles» all) × (r .end ≡ at + lineBytes * all) × Wrote at (linesText (now (file .entry)) (now (deadlines .entry)) «hit_cycles» all) (now (out .entry)) (now (out .exit)) (r .end) ⌝ }
 {

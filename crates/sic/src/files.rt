@@ -74,7 +74,12 @@ pub extern "C" fn sic_chart(file: &[u8], out: &mut [u8]) -> usize
 }
 
 #[no_mangle]
-pub extern "C" fn sic_report(file: &[u8], deadlines: &[u32], out: &mut [u8], hit_cycles: u32) -> Reported
+pub extern "C" fn sic_report(
+    file: &[u8],
+    deadlines: &[u32],
+    out: &mut [u8],
+    hit_cycles: u32,
+) -> Reported
     ensures { λ r. ⌜ (r ≡ reportAnswer (now (file .entry)) (now (deadlines .entry)) (length (now (out .entry))) «hit_cycles») × (now (out .exit) ≡ reportOutput (now (file .entry)) (now (deadlines .entry)) (now (out .entry)) «hit_cycles») ⌝ }
 {
     report_text::report(file, deadlines, out, hit_cycles)

@@ -29,10 +29,10 @@ misfit-requires : tie.Need-misfit-requires
 misfit-requires c κs = search needs
 
 array-share-prefix-text : tie.Need-array-share-prefix-text
-array-share-prefix-text c = report-inside _ _ _ (c .before .before .before .before .report .ensures) .0
+array-share-prefix-text c = report-inside _ _ _ _ (c .before .before .before .before .report .ensures) .0
 
 slice-aggregate-write-all : tie.Need-slice-aggregate-write-all
-slice-aggregate-write-all c = report-inside _ _ _ (c .before .before .before .before .before .report .ensures) .1
+slice-aggregate-write-all c = report-inside _ _ _ _ (c .before .before .before .before .before .report .ensures) .1
 
 write-all-requires : tie.Need-write-all-requires
 write-all-requires c κs = search needs

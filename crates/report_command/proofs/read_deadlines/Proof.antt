@@ -7,22 +7,16 @@ use Rattle.report_command.proofs.read_deadlines.Statement.{statement}
 use Rattle.report_command.proofs.read_deadlines.Tie as tie
 
 abbrev Inv-loop : tie.InvT-loop
-Inv-loop last deadlines₀ i₀ deadlines i = (i ≤ last) × (length deadlines ≡ length deadlines₀)
+Inv-loop first count deadlines₀ i₀ k₀ deadlines i k = (k ≤ i) × (length deadlines ≡ length deadlines₀)
 
 abbrev μ-loop : tie.MeasureT-loop
-μ-loop last deadlines₀ i₀ deadlines i = last - i
+μ-loop first count deadlines₀ i₀ k₀ deadlines i k = count - i
 
 loop-holds : tie.Need-loop-holds Inv-loop μ-loop
 loop-holds c = (omega arith, refl)
 
-add-deadline-in : tie.Need-add-deadline-in Inv-loop μ-loop
-add-deadline-in c = omega (arith, c .loop-test .taken)
-
 deadline-in-requires : tie.Need-deadline-in-requires Inv-loop μ-loop
 deadline-in-requires c κs = tt
-
-add-result : tie.Need-add-result Inv-loop μ-loop
-add-result c = omega (arith, c .before .before .before .loop-test .taken)
 
 same-length : tie.Need-same-length Inv-loop μ-loop
 same-length c = c .before .before .before .before .loop .inv .1
@@ -36,11 +30,14 @@ keep-requires c κs = tt
 add-i : tie.Need-add-i Inv-loop μ-loop
 add-i c = omega (arith, c .before .before .before .before .before .before .before .loop-test .taken)
 
+add-k : tie.Need-add-k Inv-loop μ-loop
+add-k c = omega (arith, c .before .before .before .before .before .before .before .loop-test .taken, c .before .before .before .before .before .before .before .before .loop .inv .0)
+
 loop-less : tie.Need-loop-less Inv-loop μ-loop
 loop-less c = omega (arith, c .before .before .before .before .before .before .before .loop-test .taken)
 
 loop-again : tie.Need-loop-again Inv-loop μ-loop
-loop-again c = (omega (arith, c .before .before .before .before .before .before .before .loop-test .taken), c .before .before .keep .kept .0 ∙ c .before .before .before .before .before .before .before .before .loop .inv .1)
+loop-again c = (omega (arith, c .before .before .before .before .before .before .before .before .loop .inv .0), c .before .before .keep .kept .0 ∙ c .before .before .before .before .before .before .before .before .loop .inv .1)
 
 same-length-2 : tie.Need-same-length-2 Inv-loop μ-loop
 same-length-2 c = c .before .loop .inv .1
@@ -55,13 +52,12 @@ read-deadlines-spec =
     Inv-loop
     μ-loop
     loop-holds
-    add-deadline-in
     deadline-in-requires
-    add-result
     same-length
     returns
     keep-requires
     add-i
+    add-k
     loop-less
     loop-again
     same-length-2

@@ -4,10 +4,9 @@ use mathlib.Core.Path.{sym, ap, _∙_}
 use native.Mathlib.Omega.{arith}
 use borrow.Author.Needs.{needs}
 use Rattle.record.specs.Rules.{flagOf}
-use Rattle.record.proofs.Accepted.{timed-accepted}
 use Rattle.record.proofs.Refusals.{stop, go-on, last-fails, last-passes}
 use Rattle.bus.specs.Answers.{longWait, waitRefusal, busRefusal}
-use Rattle.bus.proofs.Answered.{refused, given, sum-fits}
+use Rattle.bus.proofs.Answered.{refused, given, accepted-by, sum-fits}
 use Rattle.bus.proofs.call.bus_time.Statement.{statement}
 use Rattle.bus.proofs.call.bus_time.Tie as tie
 
@@ -16,7 +15,7 @@ timed-refusal-requires c κs = search needs
 
 -- the pass is asked of an accepted body only
 count-accesses-requires : tie.Need-count-accesses-requires
-count-accesses-requires c κs = timed-accepted _ _ (sym (c .before .timed-refusal .ensures) ∙ c .if1 .left)
+count-accesses-requires c κs = search (needs, accepted-by)
 
 returns : tie.Need-returns
 unfolding busRefusal

@@ -38,8 +38,7 @@ enter-post-requires c κs =
     let decoded = at-ID _ _ _ fetched (c .before .before .before .enter-id .ensures) in
     let executed = at-EX _ _ _ decoded (c .before .before .enter-ex .ensures) in
     let accessed = at-MEM _ _ _ executed (c .before .enter-mem .ensures) in
-    let ended = at-last _ _ _ accessed (c .enter-last .ensures) in
-    (
+    let ended = at-last _ _ _ accessed (c .enter-last .ensures) in (
       room-in-last _ _ _ (c .before .before .before .before .before .pre .0) ended,
       c .before .before .before .before .before .pre .1,
       c .before .before .before .before .before .pre .2,

@@ -1,14 +1,11 @@
--- `report::main` is safe: as many deadlines are lent as were read.
+-- `report::report_from` is safe: as many deadlines are lent as were read.
 use Prim.Native.Nat.{_-_}
 use mathlib.Core.Path.{sym}
 use native.Mathlib.Omega.{arith}
 use lib.Seq.{length-take-le}
 use borrow.Author.Needs.{needs}
-use Rattle.report_command.proofs.main.Statement.{statement}
-use Rattle.report_command.proofs.main.Tie as tie
-
-arg-count-requires : tie.Need-arg-count-requires
-arg-count-requires c κs = search needs
+use Rattle.report_command.proofs.report_from.Statement.{statement}
+use Rattle.report_command.proofs.report_from.Tie as tie
 
 usage-requires : tie.Need-usage-requires
 usage-requires c κs = search needs
@@ -41,7 +38,10 @@ array-share-prefix-deadlines : tie.Need-array-share-prefix-deadlines
 array-share-prefix-deadlines c = search needs
 
 slice-aggregate-print-report : tie.Need-slice-aggregate-print-report
-slice-aggregate-print-report c = sym (length-take-le (c .before .before .before .before .before .before .before .arg-count .result - 1) (c .before .before .before .before .read-deadlines .last .1 .0) (omega (arith, c .before .if3 .left, c .before .before .before .before .read-deadlines .kept .1 .0)))
+slice-aggregate-print-report c =
+    let read = c .before .before .before .before in
+    let a = read .before .before .before .args in
+    sym (length-take-le (a .count - a .first) (read .read-deadlines .last .1 .1 .0) (omega (arith, c .before .if3 .left, read .read-deadlines .kept .1 .1 .0)))
 
 print-report-requires : tie.Need-print-report-requires
 print-report-requires c κs = search needs
@@ -49,11 +49,10 @@ print-report-requires c κs = search needs
 returns-4 : tie.Need-returns-4
 returns-4 c = search needs
 
-pub main-spec : {M : Type 1} → statement M
-main-spec =
+pub report-from-spec : {M : Type 1} → statement M
+report-from-spec =
     tie.close
     (tie.spec
-    arg-count-requires
     usage-requires
     returns
     sub-given
