@@ -65,7 +65,7 @@ fn scan_refusal(body: &[u8], hit_cycles: u32) -> u32
     0
 }
 
-// 8 only, by the same pass: neither a hit nor an unknown flag is refused here.
+// 8 only, by the same pass: neither a hit that takes too long nor an unknown flag is refused here.
 pub fn record_refusal(body: &[u8]) -> u32
     ensures { λ r. ⌜ r ≡ recordRefusal (now (body .entry)) ⌝ }
 {

@@ -15,8 +15,8 @@ use Rattle.record.specs.Body.{Bytes, records, traceOf, traceWith, timedRefusal,
 use Rattle.running.specs.Run.{runAnswer}
 use Rattle.timing.specs.Answers.{finishAnswer, bestWorstAnswer}
 
--- a body that the refusals let pass, with h where they ask for it: with 10, 8 and 17 any accepted trace, with 10, 8, 17 and 11 one without unknown
--- flags, and so on
+-- a body that the refusals let pass, with h where they ask for it: with 10, 8 and 17 any accepted trace that 17 does not decline with h, with 11
+-- besides one without unknown flags, and so on
 pub record Passes (refusal : List ℕ → ℕ → ℕ) (h : ℕ) (body : List ℕ) : Type 0 where
   pub bytes : Bytes body
   pub passes : refusal body h ≡ 0

@@ -89,4 +89,9 @@ module _ (given : Trace) where
 
 pub zero-is-before : ZeroIsBefore
 zero-is-before trace =
-    record { counts = counts trace; places = λ t i. ap (λ (at : Places). at i) (places trace t); time = time trace }
+    record {
+      counts = counts trace;
+      cycles = λ from i. ap (λ (at : Places). at i) (cycles trace from);
+      places = λ t i. ap (λ (at : Places). at i) (places trace t);
+      time = time trace;
+    }

@@ -85,7 +85,7 @@ registers source1 source2 target i =
       hitCycles = i .hitCycles;
     }
 
--- a trace without unknown flags has one finishing time; but for document 02, F-4, a data hit takes no cycles
+-- a trace without unknown flags has one finishing time; only in the cases of document 02, F-4, does a data hit take cycles
 hittingCase : Trace → ℕ → ℕ → Case
 hittingCase trace hits time = record { trace = trace; hits = hits; best = time; worst = time }
 

@@ -12,7 +12,7 @@ use Rattle.machine.specs.Instruction.{hit, miss, Trace, instruction}
 use Rattle.machine.specs.Rules.{Stage, EX, MEM, post, next, same, Places, further, entry, accessReady, valueReady, ready, moves, willBeFree, cycle, after, allLeft}
 use Rattle.machine.specs.Time.{bound, finish, Settling, Delayed, Known, settle, best, worst}
 use Rattle.machine.specs.Hits.{withHits, HitsTake}
-use Rattle.machine.specs.Before.{entryBefore, afterBefore, finishBefore}
+use Rattle.machine.specs.Before.{entryBefore, cycleBefore, afterBefore, finishBefore}
 use Rattle.machine.specs.Order.{Slower, SameFlags, added}
 use Rattle.machine.specs.Bus.{busTime, Access, UnderWay}
 use Rattle.machine.specs.Cases.{cases, further as furtherCases, valueLoaded, nothingLoaded, lateValues, storeAndLoad, hitCases, casesHold, caseD, rows, chartOfD, chartOfValue, chartOfHits}
@@ -137,9 +137,10 @@ OnlySettling =
     settling ≡ trace
 
 -- document 02, F-4: "With h = 0 every chart is as before". Where data hits take no cycles the counts on entry are document 01's, by which states are
--- judged, and so are the places after every number of cycles and the finishing time.
+-- judged, and so are a cycle from wherever the instructions stand, the places after every number of cycles and the finishing time.
 pub record AsBefore (trace : Trace) : Type 0 where
   pub counts : (i : ℕ) (s : Stage) → entry (instruction trace i) s ≡ entryBefore (instruction trace i) s
+  pub cycles : (places : Places) (i : ℕ) → cycle trace places i ≡ cycleBefore trace places i
   pub places : (t i : ℕ) → after trace t i ≡ afterBefore trace t i
   pub time : finish trace ≡ finishBefore trace
 

@@ -23,7 +23,7 @@ HitStepAnswered =
     map (λ s. stepAnswer (bodyOf storeAndLoad) s 2) (take 9 chartOfHits) ≡ map (λ s. record { refusal = 0; state = s }) (drop 1 chartOfHits)
 
 -- "The calls that take a state judge its counts by the new entry counts": the row in which both have their count, h in MEM and in ST, is orderly for an
--- h of 2 and more, and is not, since it has h + 1, for 1 and 0.
+-- h of 2 and more, and is not for 1, of which the count is h + 1, nor for 0.
 abbrev pub CountsJudged : Type 0
 CountsJudged =
     map (λ h. map (λ s. stepAnswer (bodyOf storeAndLoad) s h .refusal) (take 1 (drop 5 chartOfHits))) (0 ∷ 1 ∷ 2 ∷ 3 ∷ [])

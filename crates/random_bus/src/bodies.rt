@@ -33,8 +33,8 @@ pub fn sparse(bytes: [u8; 120], d: Dice) -> [u8; 120] {
     b
 }
 
-// A wait from the whole range, every other time one that leaves room for a latency of h and at most 8 more: one of a
-// data access that is not above h gives 17 before 15.
+// A wait from the whole range, every other time one that leaves room for a latency of h to h + 8: a data latency that
+// is not above h gives 17 before 15.
 pub fn wait_of(d: Dice, hit_cycles: u32) -> u32
     requires { ⌜ «hit_cycles» < 17 ⌝ }
     ensures { λ r. ⌜ r < 65536 ⌝ }

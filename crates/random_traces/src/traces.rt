@@ -65,7 +65,7 @@ fn about(hit_cycles: u32, d: Dice) -> u32
     above - 1
 }
 
-// Above h but for, where that is asked, every other one.
+// Above h, or every other time near it where the style asks for that.
 fn data_latency(d: Dice, style: Style) -> u32
     ensures { λ r. ⌜ r < 65536 ⌝ }
 {

@@ -59,7 +59,7 @@ fn reason(number: u32) {
             b"the file does not end with its last body; it was cut, or has bytes after its last body\n",
         ),
         17 => say(
-            b"a data hit takes more than 15 cycles, or no fewer than a load's or store's data latency; give fewer hit cycles, or the latencies of the same core\n",
+            b"a data hit takes more than 15 cycles, or no fewer than a load's or store's data latency; give fewer hit cycles, or the data latencies of the core whose hits take so long\n",
         ),
         _ => say(
             b"a record breaks its rules; compare it with the table of the record in docs/FORMAT.md\n",

@@ -28,7 +28,7 @@ fn smaller(a: u32, b: u32) -> u32
     if a < b { a } else { b }
 }
 
-// The run of an accepted body whose unknown flags become the flag `to`. An inner function: a chart takes
+// The run of an accepted body that 17 does not decline, its unknown flags made the flag `to`. An inner function: a chart takes
 // its rows from it, with unknown flags as misses.
 pub fn run_settled(body: &[u8], to: u32, limit: u32, hit_cycles: u32) -> Ran
     requires { ⌜ timedRefusal (now body) «hit_cycles» ≡ 0 ⌝ }

@@ -4,10 +4,11 @@ use mathlib.Core.Bool.{Bool, true, false, not, _&&_}
 use mathlib.Core.List.{List}
 use mathlib.Core.Path.{_≡_, refl, subst, _∙_}
 use native.Mathlib.Nat.{le-antisymm}
+use native.Mathlib.Omega.{arith}
 use borrow.Author.Tests.{lt-leb, le-leb, eq-eqb, ne-eqb, eqb-true}
 use lib.Dec.{leb, eqb}
 use Rattle.machine.specs.Test.{none}
-use Rattle.machine.proofs.Connectives.{none-at, none-fails}
+use Rattle.machine.proofs.Connectives.{none-at, none-below, none-fails}
 use Rattle.record.specs.Refusal.{longHit}
 use Rattle.record.specs.Body.{maxHitCycles, bodyRefusal, hitRefusal, timedRefusal}
 use Rattle.record.proofs.Accepted.{and-true, timed-of}
@@ -46,6 +47,10 @@ module _ (file : List ℕ) (h : ℕ) where
   all-passed few t seen up down =
       last-passes longHit
       (rw (le-leb h maxHitCycles few) (subst (λ (n : ℕ). none (declinesAt file h) n ≡ true) (le-antisymm down up) seen))
+
+  -- nor does 17 decline a file of whose bodies it declines none
+  pub none-declined : h ≤ maxHitCycles → ((t : ℕ) → t < traces file → hitRefusal (openBody file t) h ≡ 0) → 0 ≡ fileHitRefusal file h
+  none-declined few passed = all-passed few (traces file) (none-below _ _ (λ t l. lets-pass file h t refl (passed t l))) (omega arith) (omega arith)
 
   module _ (passes : timedFileRefusal file h ≡ 0) where
     pub file-accepted : fileRefusal file ≡ 0

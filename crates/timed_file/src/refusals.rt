@@ -9,7 +9,7 @@ use little_endian::half;
 use parts::body_of;
 use record::refusal::LONG_HIT;
 
-// 17 only, for a checked file: as for the body of each trace, and for a file without traces.
+// 17 only, for a checked file: too many cycles, even without traces, else as for the body of each.
 fn file_hit_refusal(file: &[u8], hit_cycles: u32) -> u32
     requires { ⌜ fileRefusal (now file) ≡ 0 ⌝ }
     ensures { λ r. ⌜ r ≡ fileHitRefusal (now (file .entry)) «hit_cycles» ⌝ }

@@ -27,6 +27,7 @@ jobs-answered =
       broken-and-shorter = (refl, refl);
       no-traces = (refl, refl);
       hit-below = (refl, refl);
+      hit-shown = (refl, refl);
       hit-not-below = (refl, refl);
       hit-and-shorter = (refl, refl);
       broken-and-hit = (refl, refl);
