@@ -383,6 +383,8 @@ function one_case(head, rest,   words, n, i, call, hits, body, answer, beside) {
     call = call (hits == "" ? substr(words[1], 2) : hits)
     if (hits + 0 > 4294967295) fail("no number of 32 bits: " hits)
     if (hits != "" && words[1] ~ /^(open|view|write)$/) fail(words[1] " takes no hits=" hits)
+    i = words[1] ~ /^(step|write)$/ ? n : words[1] ~ /^(run|margin|bus|job|open|view)$/ ? 2 : 1
+    if (n > i) fail("unknown word " words[n])
     rest = " " rest
     i = match(rest, / = [^=]*$/)
     if (!i || index("/check/finish/times/run/margin/bus/job/open/view/step/alike/write/", "/" words[1] "/") == 0)

@@ -2,14 +2,15 @@
 use Prim.Native.Nat.{ℕ, _+_, _≤_, _<_}
 use mathlib.Core.Bool.{Bool, true, false, not, _&&_, _||_, false≢true}
 use mathlib.Core.List.{List}
-use mathlib.Core.Path.{_≡_, refl, ap, subst, _∙_}
+use mathlib.Core.Path.{_≡_, refl, sym, ap, subst, _∙_}
 use native.Mathlib.Nat.{le-antisymm}
-use borrow.Author.Tests.{ltb-true, ltb-false, lt-leb, le-leb}
-use lib.Dec.{ltb, leb}
+use borrow.Author.Tests.{lt-leb, le-leb}
+use lib.Dec.{leb}
 use Rattle.machine.specs.Test.{none}
-use Rattle.machine.proofs.Connectives.{Value, passed, failed, value, none-fails}
+use Rattle.machine.proofs.Connectives.{none-fails}
 use Rattle.record.specs.Refusal.{longHit}
-use Rattle.record.specs.Body.{records, notAboveAt, maxHitCycles, hitRefusal}
+use Rattle.record.specs.Body.{Bytes, records, notAboveAt, maxHitCycles, bodyRefusal, hitRefusal}
+use Rattle.record.proofs.Accepted.{zero-hits}
 use Rattle.record.proofs.Refusals.{last-fails, last-passes}
 use Rattle.record.proofs.Scan.{none-zero, none-joined}
 
@@ -19,13 +20,6 @@ tested body h k = leb h maxHitCycles && none (notAboveAt body h) k
 -- of the first k records: whether a data hit takes too long
 pub record Seen (body : List ℕ) (h k : ℕ) (long : Bool) : Type 0 where
   pub tests : tested body h k ≡ not long
-
-at-most-is : (h n : ℕ) → leb h n ≡ not (ltb n h)
-at-most-is h n = by (value (ltb n h))
-  where
-    by : Value (ltb n h) → leb h n ≡ not (ltb n h)
-    by (passed l) = rw l (lt-leb h n (ltb-true n h l))
-    by (failed l) = rw l (le-leb h n (ltb-false n h l))
 
 and-zero : (ok : Bool) (test : ℕ → Bool) → (ok && none test 0) ≡ ok
 and-zero true test = none-zero test
@@ -37,18 +31,11 @@ and-more false test k true here before now = before
 and-more false test k false here before now = absurd (false≢true before)
 
 module _ {body : List ℕ} {h : ℕ} where
-  pub seen-none : Seen body h 0 (ltb maxHitCycles h)
-  seen-none = record { tests = and-zero (leb h maxHitCycles) (notAboveAt body h) ∙ at-most-is h maxHitCycles }
-
   pub seen-more : {k : ℕ} {long here : Bool} → Seen body h k long → here ≡ notAboveAt body h k → Seen body h (k + 1) (long || here)
   seen-more {k} {long} {here} s now = record { tests = and-more (leb h maxHitCycles) (notAboveAt body h) k long here (s .tests) now }
 
   all : {k : ℕ} {long : Bool} → Seen body h k long → records body ≤ k → k ≤ records body → tested body h (records body) ≡ not long
   all {k} {long} s up down = subst (λ (m : ℕ). tested body h m ≡ not long) (le-antisymm down up) (s .tests)
-
-  pub seen-refused : {k : ℕ} {long : Bool} → Seen body h k long → long ≡ true → records body ≤ k → k ≤ records body → longHit ≡ hitRefusal body h
-  unfolding hitRefusal
-  seen-refused s e up down = last-fails longHit (all s up down ∙ ap not e)
 
   pub seen-passed : {k : ℕ} {long : Bool} → Seen body h k long → long ≡ false → records body ≤ k → k ≤ records body → 0 ≡ hitRefusal body h
   unfolding hitRefusal
@@ -63,6 +50,10 @@ found true test n k l e = none-fails test n k l e
 found false test n k l e = refl
 
 module _ (body : List ℕ) (h : ℕ) where
+  -- no data latency of an accepted body is 0
+  pub zero-passes : bodyRefusal body ≡ 0 → Bytes body → h ≡ 0 → 0 ≡ hitRefusal body h
+  zero-passes accepted b e = rw e (sym (zero-hits body accepted b))
+
   pub one-refused : (k : ℕ) → k < records body → notAboveAt body h k ≡ true → longHit ≡ hitRefusal body h
   unfolding hitRefusal
   one-refused k l e = last-fails longHit (found (leb h maxHitCycles) (notAboveAt body h) (records body) k l e)

@@ -39,25 +39,19 @@ pub fn length_refusal(body: &[u8]) -> u32
     0
 }
 
-// 8, then 17, then 11, in one pass: a hit that takes too long, and an unknown flag, count only where
-// no record breaks its rules.
-fn scan_refusal(body: &[u8], hit_cycles: u32) -> u32
-    ensures { λ r. ⌜ r ≡ (recordRefusal (now (body .entry)) then hitRefusal (now (body .entry)) «hit_cycles» then unknownRefusal (now (body .entry))) ⌝ }
+// 8, then 11, in one pass: an unknown flag counts only where no record breaks its rules.
+fn known_refusal(body: &[u8]) -> u32
+    ensures { λ r. ⌜ r ≡ (recordRefusal (now (body .entry)) then unknownRefusal (now (body .entry))) ⌝ }
 {
     let records = body.len() / RECORD_SIZE;
-    let mut long = hit_cycles > MAX_HIT_CYCLES;
     let mut unknown = false;
     let mut k = 0;
     while k < records {
         if breaks_rules(body, k * RECORD_SIZE) {
             return BROKEN_RECORD;
         }
-        long = long | not_above_from(body, k * RECORD_SIZE, hit_cycles);
         unknown = unknown | unknown_from(body, k * RECORD_SIZE);
         k += 1;
-    }
-    if long {
-        return LONG_HIT;
     }
     if unknown {
         return UNKNOWN_FLAG;
@@ -65,22 +59,27 @@ fn scan_refusal(body: &[u8], hit_cycles: u32) -> u32
     0
 }
 
-// 8 only, by the same pass: neither a hit that takes too long nor an unknown flag is refused here.
+// 8 only, by the same pass: an unknown flag is not refused here.
 pub fn record_refusal(body: &[u8]) -> u32
     ensures { λ r. ⌜ r ≡ recordRefusal (now (body .entry)) ⌝ }
 {
-    if scan_refusal(body, 0) == BROKEN_RECORD {
+    if known_refusal(body) == BROKEN_RECORD {
         return BROKEN_RECORD;
     }
     0
 }
 
-// 17 only.
+// 17 only, of a body whose records keep their rules: a hit that takes no cycles is shorter than every
+// data latency, so that no record need be read for it.
 pub fn hit_refusal(body: &[u8], hit_cycles: u32) -> u32
+    requires { ⌜ bodyRefusal (now body) ≡ 0 ⌝ }
     ensures { λ r. ⌜ r ≡ hitRefusal (now (body .entry)) «hit_cycles» ⌝ }
 {
     if hit_cycles > MAX_HIT_CYCLES {
         return LONG_HIT;
+    }
+    if hit_cycles == 0 {
+        return 0;
     }
     let all = body.len() / RECORD_SIZE;
     let mut k = 0;
@@ -108,15 +107,11 @@ pub fn body_refusal(body: &[u8]) -> u32
 pub fn timed_refusal(body: &[u8], hit_cycles: u32) -> u32
     ensures { λ r. ⌜ r ≡ timedRefusal (now (body .entry)) «hit_cycles» ⌝ }
 {
-    let wrong = length_refusal(body);
-    if wrong != 0 {
-        return wrong;
+    let refused = body_refusal(body);
+    if refused != 0 {
+        return refused;
     }
-    let found = scan_refusal(body, hit_cycles);
-    if found == UNKNOWN_FLAG {
-        return 0;
-    }
-    found
+    hit_refusal(body, hit_cycles)
 }
 
 // 10, then 8, then 17, then 11.
@@ -127,5 +122,13 @@ pub fn settled_refusal(body: &[u8], hit_cycles: u32) -> u32
     if fault != 0 {
         return fault;
     }
-    scan_refusal(body, hit_cycles)
+    let known = known_refusal(body);
+    if known == BROKEN_RECORD {
+        return BROKEN_RECORD;
+    }
+    let long = hit_refusal(body, hit_cycles);
+    if long != 0 {
+        return long;
+    }
+    known
 }

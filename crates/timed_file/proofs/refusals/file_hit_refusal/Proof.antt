@@ -6,9 +6,10 @@ use mathlib.Core.Path.{_≡_, ap, _∙_}
 use native.Mathlib.Omega.{arith}
 use borrow.Author.Needs.{needs}
 use Rattle.machine.specs.Test.{none}
-use Rattle.record.specs.Body.{hitRefusal}
+use Rattle.record.specs.Body.{bodyRefusal, hitRefusal}
 use Rattle.record.proofs.Scan.{none-zero, none-more}
-use Rattle.job.proofs.Accepted.{file-fine}
+use Rattle.job.proofs.Accepted.{file-fine, open-accepted}
+use Rattle.job.proofs.Part.{opened-accepted}
 use Rattle.timed_file.specs.Refusal.{declinesAt}
 use Rattle.timed_file.proofs.Hits.{declines, lets-pass, long-refused, one-refused, all-passed}
 use Rattle.timed_file.proofs.refusals.file_hit_refusal.Statement.{statement}
@@ -35,7 +36,11 @@ body-of-requires c κs =
     (counted .before .before .before .pre, omega (arith, c .loop-test .taken, counted .half .ensures .0))
 
 hit-refusal-requires : tie.Need-hit-refusal-requires Inv-loop μ-loop
-hit-refusal-requires c κs = search needs
+hit-refusal-requires c κs =
+    let start = c .before .before .before .before .before .before in
+    let a = start .args in
+    ap bodyRefusal (c .body-of .ensures .0)
+    ∙ opened-accepted (a .file .now) _ (open-accepted (a .file .now) _ (start .pre) (omega (arith, c .before .loop-test .taken, c .before .before .before .half .ensures .0)))
 
 returns-2 : tie.Need-returns-2 Inv-loop μ-loop
 returns-2 c =
