@@ -18,7 +18,7 @@ struct Instruction {
     data_latency: u32,
 }
 
-/// Always inlined: left to the compiler it is called in some loops, and Rust takes up to twice as long.
+/// Always inlined, as is [`broken`]: left to the compiler they are called in some loops, and Rust takes up to twice as long.
 #[inline(always)]
 fn read(b: &[u8]) -> Instruction {
     Instruction {
@@ -72,6 +72,7 @@ impl Instruction {
 }
 
 /// With `|`, by which all rules are tested: with `||` the branches are mispredicted, and Rust takes longer over long bodies.
+#[inline(always)]
 fn broken(b: &[u8]) -> bool {
     let i = read(b);
     let memory = (i.kind == LOAD) | (i.kind == STORE);
