@@ -114,7 +114,7 @@ pub fn timed_refusal(body: &[u8], hit_cycles: u32) -> u32
     hit_refusal(body, hit_cycles)
 }
 
-// 10, then 8, then 17, then 11.
+// 10, then 8, then 17, then 11. One pass finds 8 and 11; its 11 waits until 17 is judged.
 pub fn settled_refusal(body: &[u8], hit_cycles: u32) -> u32
     ensures { λ r. ⌜ r ≡ settledRefusal (now (body .entry)) «hit_cycles» ⌝ }
 {
