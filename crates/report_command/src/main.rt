@@ -56,7 +56,8 @@ fn has_option() -> bool {
     same(&word[..n], b"--hit-cycles")
 }
 
-// The cycles of a data hit, from the argument after the option; without the option there are none.
+// The cycles of a data hit, from the argument after the option, a number of cycles as a deadline is;
+// without the option there are none.
 fn hit_cycles_in(option: bool) -> Deadline {
     if option {
         return deadline_in(2);
