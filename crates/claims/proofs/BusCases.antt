@@ -27,7 +27,7 @@ use Rattle.claims.proofs.Claim.{finish-answered}
 use Rattle.claims.proofs.Bus.{time-holds}
 
 pub bus-answered : BusAnswered
-unfolding _and_ _or_ every none next furtherOn shortOf entry noOlder readsInID readsInEX missesData readyIn ready budget movesWithin moves cycle allPre after allLeft bound leastFrom finish settle worst withHits countsFetch countsData accessesOf accesses busTime cases _then_ _unless_ fieldsFrom breaksRules notAbove kindOf flagOf instructionOf breaksAt notAboveAt firsts traceOf recordOf recordBytes fieldsOf bodyOf lengthRefusal recordRefusal hitRefusal bodyRefusal timedRefusal exceeds exceedsAt waitRefusal busRefusal busAnswer
+unfolding _and_ _or_ every none furtherOn shortOf entry noOlder readsInID readsInEX missesData readyIn ready budget movesWithin moves cycle allPre after allLeft bound leastFrom finish settle worst withHits countsFetch countsData accessesOf accesses busTime cases _then_ _unless_ fieldsFrom breaksRules notAbove kindOf flagOf instructionOf breaksAt notAboveAt firsts traceOf recordOf recordBytes fieldsOf bodyOf lengthRefusal recordRefusal hitRefusal bodyRefusal timedRefusal exceeds exceedsAt waitRefusal busRefusal busAnswer
 bus-answered = refl
 
 pub long-wait-declined : LongWaitDeclined
@@ -35,7 +35,7 @@ unfolding _and_ _or_ every none countsFetch countsData cases caseC _then_ _unles
 long-wait-declined = (refl, refl)
 
 pub hits-on-bus : HitsOnBus
-unfolding _and_ _or_ every none next furtherOn shortOf entry noOlder readsInID readsInEX missesData readyIn ready budget movesWithin moves cycle allPre after allLeft bound leastFrom finish settle worst withHits countsFetch countsData accessesOf accesses busTime missAndHit _then_ _unless_ fieldsFrom breaksRules notAbove kindOf flagOf instructionOf breaksAt notAboveAt firsts traceOf recordOf recordBytes fieldsOf bodyOf lengthRefusal recordRefusal hitRefusal bodyRefusal timedRefusal exceeds exceedsAt waitRefusal busRefusal busAnswer
+unfolding _and_ _or_ every none furtherOn shortOf entry noOlder readsInID readsInEX missesData readyIn ready budget movesWithin moves cycle allPre after allLeft bound leastFrom finish settle worst withHits countsFetch countsData accessesOf accesses busTime missAndHit _then_ _unless_ fieldsFrom breaksRules notAbove kindOf flagOf instructionOf breaksAt notAboveAt firsts traceOf recordOf recordBytes fieldsOf bodyOf lengthRefusal recordRefusal hitRefusal bodyRefusal timedRefusal exceeds exceedsAt waitRefusal busRefusal busAnswer
 hits-on-bus = refl
 
 -- the cases' own traces have no cycles of a hit
@@ -76,7 +76,7 @@ module _
       }
 
 pub time-attained : TimeAttained
-unfolding _and_ _or_ every none next furtherOn shortOf entry noOlder readsInID readsInEX missesData readyIn ready budget movesWithin moves cycle allPre after allLeft bound leastFrom finish withWaits settleFlag settleInstruction settle worst withHits countsFetch countsData accessesOf accesses busTime caseC caseF caseI caseL _then_ _unless_ fieldsFrom breaksRules notAbove kindOf flagOf instructionOf breaksAt notAboveAt firsts traceOf recordOf recordBytes fieldsOf bodyOf lengthRefusal recordRefusal hitRefusal bodyRefusal timedRefusal exceeds exceedsAt waitRefusal busRefusal busAnswer allAtWorst
+unfolding _and_ _or_ every none furtherOn shortOf entry noOlder readsInID readsInEX missesData readyIn ready budget movesWithin moves cycle allPre after allLeft bound leastFrom finish withWaits settleFlag settleInstruction settle worst withHits countsFetch countsData accessesOf accesses busTime caseC caseF caseI caseL _then_ _unless_ fieldsFrom breaksRules notAbove kindOf flagOf instructionOf breaksAt notAboveAt firsts traceOf recordOf recordBytes fieldsOf bodyOf lengthRefusal recordRefusal hitRefusal bodyRefusal timedRefusal exceeds exceedsAt waitRefusal busRefusal busAnswer allAtWorst
 time-attained = (
   attained caseC (omega arith) (one-none _ refl) refl refl,
   attained caseF (omega arith) (two-none _ _ refl refl) refl refl,
@@ -85,7 +85,7 @@ time-attained = (
 )
 
 pub each-under-way : EachUnderWay
-unfolding _and_ _or_ every none next furtherOn shortOf entry noOlder readsInID readsInEX missesData readyIn ready budget movesWithin moves cycle allPre after caseC caseF caseI
+unfolding _and_ _or_ every none furtherOn shortOf entry noOlder readsInID readsInEX missesData readyIn ready budget movesWithin moves cycle allPre after caseC caseF caseI
 each-under-way = (
   fetch-in-IF refl refl (omega arith),
   load-in-MEM refl refl refl (omega arith),

@@ -91,15 +91,15 @@ map-same {A} test f g same (c ∷ cs) e =
     ap₂ (λ (a : A) (rest : List A). a ∷ rest) (same c (and-l _ _ e)) (map-same test f g same cs (and-r _ _ e))
 
 cases-run : all runs (cases ++ further ++ lateValues ++ hitCases) ≡ true
-unfolding _and_ _or_ every none next furtherOn shortOf entry noOlder readsInID readsInEX missesData readyIn ready budget movesWithin moves cycle allPre after allLeft bound leastFrom finish withHits cases further lateValues hitCases _then_ _unless_ fieldsFrom breaksRules hasUnknown notAbove breaksAt unknownAt notAboveAt recordOf recordBytes fieldsOf bodyOf lengthRefusal recordRefusal unknownRefusal hitRefusal bodyRefusal timedRefusal settledRefusal known refusalOf runs all
+unfolding _and_ _or_ every none furtherOn shortOf entry noOlder readsInID readsInEX missesData readyIn ready budget movesWithin moves cycle allPre after allLeft bound leastFrom finish withHits cases further lateValues hitCases _then_ _unless_ fieldsFrom breaksRules hasUnknown notAbove breaksAt unknownAt notAboveAt recordOf recordBytes fieldsOf bodyOf lengthRefusal recordRefusal unknownRefusal hitRefusal bodyRefusal timedRefusal settledRefusal known refusalOf runs all
 cases-run = refl
 
 cases-margin : all margins (cases ++ further ++ lateValues ++ hitCases) ≡ true
-unfolding _and_ _or_ every none next furtherOn shortOf entry noOlder readsInID readsInEX missesData readyIn ready budget movesWithin moves cycle allPre after allLeft bound leastFrom finish settle worst withHits cases further lateValues hitCases _then_ _unless_ fieldsFrom breaksRules notAbove breaksAt notAboveAt recordOf recordBytes fieldsOf bodyOf lengthRefusal recordRefusal hitRefusal bodyRefusal timedRefusal margins all
+unfolding _and_ _or_ every none furtherOn shortOf entry noOlder readsInID readsInEX missesData readyIn ready budget movesWithin moves cycle allPre after allLeft bound leastFrom finish settle worst withHits cases further lateValues hitCases _then_ _unless_ fieldsFrom breaksRules notAbove breaksAt notAboveAt recordOf recordBytes fieldsOf bodyOf lengthRefusal recordRefusal hitRefusal bodyRefusal timedRefusal margins all
 cases-margin = refl
 
 pub cases-answered : CasesAnswered
-unfolding _and_ _or_ every none next furtherOn shortOf entry noOlder readsInID readsInEX missesData readyIn ready budget movesWithin moves cycle allPre after allLeft bound leastFrom finish settle best worst withHits cases further lateValues hitCases _then_ _unless_ fieldsFrom breaksRules hasUnknown notAbove kindOf flagOf instructionOf breaksAt unknownAt notAboveAt firsts traceOf recordOf recordBytes fieldsOf bodyOf lengthRefusal recordRefusal unknownRefusal hitRefusal bodyRefusal timedRefusal settledRefusal known refusalOf finishAnswer bestWorstAnswer finishOf bestWorstOf
+unfolding _and_ _or_ every none furtherOn shortOf entry noOlder readsInID readsInEX missesData readyIn ready budget movesWithin moves cycle allPre after allLeft bound leastFrom finish settle best worst withHits cases further lateValues hitCases _then_ _unless_ fieldsFrom breaksRules hasUnknown notAbove kindOf flagOf instructionOf breaksAt unknownAt notAboveAt firsts traceOf recordOf recordBytes fieldsOf bodyOf lengthRefusal recordRefusal unknownRefusal hitRefusal bodyRefusal timedRefusal settledRefusal known refusalOf finishAnswer bestWorstAnswer finishOf bestWorstOf
 cases-answered =
     record {
       finish = refl;
@@ -109,9 +109,9 @@ cases-answered =
     }
 
 pub chart-answered : ChartAnswered
-unfolding _and_ _or_ every none next furtherOn shortOf entry noOlder readsInID readsInEX missesData readyIn ready budget movesWithin moves cycle allPre after allLeft bound leastFrom finish fetchedBelow occupantBelow stateOf withHits chartOfD _then_ _unless_ fieldsFrom breaksRules hasUnknown notAbove kindOf flagOf instructionOf breaksAt unknownAt notAboveAt firsts traceOf lengthRefusal recordRefusal unknownRefusal hitRefusal bodyRefusal timedRefusal settledRefusal ranFor runAnswer
+unfolding _and_ _or_ every none furtherOn shortOf entry noOlder readsInID readsInEX missesData readyIn ready budget movesWithin moves cycle allPre after allLeft bound leastFrom finish fetchedBelow occupantBelow stateOf withHits chartOfD _then_ _unless_ fieldsFrom breaksRules hasUnknown notAbove kindOf flagOf instructionOf breaksAt unknownAt notAboveAt firsts traceOf lengthRefusal recordRefusal unknownRefusal hitRefusal bodyRefusal timedRefusal settledRefusal ranFor runAnswer
 chart-answered = refl
 
 pub hit-chart-answered : HitChartAnswered
-unfolding _and_ _or_ every none next furtherOn shortOf entry noOlder readsInID readsInEX missesData readyIn ready budget movesWithin moves cycle allPre after allLeft bound leastFrom finish fetchedBelow occupantBelow stateOf withHits storeAndLoad chartOfHits _then_ _unless_ fieldsFrom breaksRules hasUnknown notAbove kindOf flagOf instructionOf breaksAt unknownAt notAboveAt firsts traceOf recordOf recordBytes fieldsOf bodyOf lengthRefusal recordRefusal unknownRefusal hitRefusal bodyRefusal timedRefusal settledRefusal ranFor runAnswer
+unfolding _and_ _or_ every none furtherOn shortOf entry noOlder readsInID readsInEX missesData readyIn ready budget movesWithin moves cycle allPre after allLeft bound leastFrom finish fetchedBelow occupantBelow stateOf withHits storeAndLoad chartOfHits _then_ _unless_ fieldsFrom breaksRules hasUnknown notAbove kindOf flagOf instructionOf breaksAt unknownAt notAboveAt firsts traceOf recordOf recordBytes fieldsOf bodyOf lengthRefusal recordRefusal unknownRefusal hitRefusal bodyRefusal timedRefusal settledRefusal ranFor runAnswer
 hit-chart-answered = refl

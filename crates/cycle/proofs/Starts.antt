@@ -9,10 +9,11 @@ use Rattle.machine.specs.Rules.{Stage, pre, IF, ID, EX, MEM, ST, WB, post, same
 use Rattle.machine.specs.State.{slot}
 use Rattle.machine.specs.declared.State.{State}
 use Rattle.machine.proofs.Connectives.{Value, passed, failed, value, clash, and-l, and-r, and-failed-l, or-l, or-r, or-else, not-passes}
-use Rattle.machine.proofs.BySlots.{standing, goes, occupied, storeInMEM, nextIn, movesIn, movesAt, freeAt, moves-at, free-at, stageBefore, arrives, leaves, slotAfter, newSlot, stepBySlots}
+use Rattle.machine.proofs.Doing.{nextIn}
+use Rattle.machine.proofs.BySlots.{standing, goes, occupied, storeInMEM, movesIn, movesAt, freeAt, moves-at, free-at, stageBefore, arrivesIn, arrives, leaves, slotAfter, newSlot, stepBySlots}
 use Rattle.machine.proofs.Masks.{bits, maskOf, mask-bits, goes-post, occupied-post}
 use Rattle.moving.specs.declared.moving.Bits.{Bits}
-use Rattle.moving.specs.Inner.{bitsOf}
+use Rattle.moving.specs.Inner.{bitsOf, bitOf}
 use Rattle.starting.specs.Inner.{opens, opensAfter, starts}
 use Rattle.cycle.specs.Inner.{stays, standstill}
 use Rattle.cycle.proofs.Slots.{state-is}
@@ -125,6 +126,14 @@ module _ (trace : Trace) (s : State) where
       (fun-ext (mask-bits (starts trace s) (and-failed-l _ _ (goes-post trace s))))
       (fun-ext (mask-bits (occupied trace s) (occupied-post trace s)))
       ∙ by-starts k)
+
+  pub arriving-is
+      : {moving : Bits} {store : Bool} →
+      moving ≡ bitsOf (leaves trace s) →
+      store ≡ storeInMEM trace s →
+      bitsOf (arrivesIn (bitOf moving) store) ≡ bitsOf (arrives trace s)
+  unfolding arrives stageBefore leaves movesAt movesIn budget
+  arriving-is m t = λ i. bitsOf (arrivesIn (bitOf (m i)) (t i))
 
   module _ (idle : (k : Stage) → starts trace s k ≡ false) where
     nobody-leaves : (k : Stage) → same k post ≡ false → leaves trace s k ≡ false

@@ -4,20 +4,23 @@ ghost use mathlib.Core.Bool.{cond};
 ghost use Prim.Native.Nat.{suc, _≤_};
 ghost use lib.ListN.{length};
 ghost use Rattle.machine.specs.Instruction.{Trace};
+ghost use Rattle.machine.specs.Rules.{Stage};
 ghost use Rattle.machine.specs.Hits.{withHits};
 ghost use Rattle.machine.specs.State.{maxInstructions};
-ghost use Rattle.machine.proofs.BySlots.{occupied, storeInMEM, leaves, slotAfter, stepBySlots};
+ghost use Rattle.machine.proofs.BySlots.{occupied, leaves, arrives, slotAfter, stepBySlots};
 ghost use Rattle.standing.specs.Inner.{Reads};
-ghost use Rattle.moving.specs.Inner.{bitsOf};
-ghost use Rattle.cycle.specs.Inner.{standstill};
+ghost use Rattle.moving.specs.Inner.{bitsOf, kindIn};
+ghost use Rattle.cycle.specs.Inner.{kindRead, standstill};
 use decode::count_in_if;
 use decode::count_in_mem;
 use decode::count_in_st;
-use decode::is_store;
+use decode::kind;
 use decode::less;
 use machine::Slot;
 use machine::State;
 use moving::Bits;
+use moving::Kinds;
+use moving::arriving;
 use moving::leaving;
 use moving::mask;
 use moving::none;
@@ -36,6 +39,21 @@ fn full(n: u32, s: State) -> Bits
         MEM: s.MEM.filled,
         ST: s.ST.filled,
         WB: s.WB.filled,
+    }
+}
+
+// The kinds of the instructions whose fields are read.
+fn kinds_read(w: Standing) -> Kinds
+    ensures { λ r. ⌜ ((k : Stage) → kindIn r k ≡ kindRead w k) ⌝ }
+{
+    Kinds {
+        pre: kind(w.pre),
+        IF: kind(w.IF),
+        ID: kind(w.ID),
+        EX: kind(w.EX),
+        MEM: kind(w.MEM),
+        ST: kind(w.ST),
+        WB: kind(w.WB),
     }
 }
 
@@ -74,35 +92,35 @@ fn fetched_after(fetches: bool, fetched: u32) -> u32
     fetched
 }
 
-// What comes into each slot is what leaves the one before; from MEM a store goes to ST.
-fn slots_after(s: State, w: Standing, moving: Bits, store: bool, hit_cycles: u32) -> State
+// What comes into each slot is what leaves the one before.
+fn slots_after(s: State, w: Standing, moving: Bits, coming: Bits, hit_cycles: u32) -> State
     requires { ⌜ s .fetched ≤ maxInstructions ⌝ }
     ensures { λ r. ⌜ ((trace : Trace) →
         Reads trace s w →
         moving ≡ bitsOf (leaves trace s) →
-        store ≡ storeInMEM trace s →
+        coming ≡ bitsOf (arrives trace s) →
         r ≡ stepBySlots (withHits «hit_cycles» trace) s) ⌝ }
 {
     State {
         fetched: fetched_after(moving.pre, s.fetched),
-        IF: slot_after(moving.pre, s.fetched, count_in_if(w.pre), moving.IF, s.IF),
-        ID: slot_after(moving.IF, s.IF.index, 0, moving.ID, s.ID),
-        EX: slot_after(moving.ID, s.ID.index, w.ID.execution, moving.EX, s.EX),
+        IF: slot_after(coming.IF, s.fetched, count_in_if(w.pre), moving.IF, s.IF),
+        ID: slot_after(coming.ID, s.IF.index, 0, moving.ID, s.ID),
+        EX: slot_after(coming.EX, s.ID.index, w.ID.execution, moving.EX, s.EX),
         MEM: slot_after(
-            moving.EX,
+            coming.MEM,
             s.EX.index,
             count_in_mem(w.EX, hit_cycles),
             moving.MEM,
             s.MEM,
         ),
         ST: slot_after(
-            moving.MEM & store,
+            coming.ST,
             s.MEM.index,
             count_in_st(w.MEM, hit_cycles),
             moving.ST,
             s.ST,
         ),
-        WB: slot_after(moving.MEM & !store, s.MEM.index, 0, moving.WB, s.WB),
+        WB: slot_after(coming.WB, s.MEM.index, 0, moving.WB, s.WB),
     }
 }
 
@@ -130,7 +148,7 @@ pub fn cycle(n: u32, s: State, w: Standing, hit_cycles: u32) -> State
     if none(starting) {
         return all_stay(s);
     }
-    let store = is_store(w.MEM);
-    let moving = leaving(mask(starting), mask(full(n, s)), store);
-    slots_after(s, w, moving, store, hit_cycles)
+    let kinds = kinds_read(w);
+    let moving = leaving(mask(starting), mask(full(n, s)), kinds);
+    slots_after(s, w, moving, arriving(moving, kinds), hit_cycles)
 }

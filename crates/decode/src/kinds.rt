@@ -1,5 +1,6 @@
 // Kinds and flags by name, and what the rules ask of them.
 ghost use mathlib.Core.Path.{_≡_};
+ghost use Rattle.machine.specs.Named.{kindNamed};
 ghost use Rattle.machine.specs.Rules.{
   isLoad,
   isStore,
@@ -11,6 +12,7 @@ ghost use Rattle.machine.specs.Rules.{
   missesData,
 };
 ghost use Rattle.record.specs.Rules.{instructionOf};
+use machine::Kind;
 use record::Fields;
 
 // The numbers of the kinds; 0 is plain.
@@ -24,6 +26,19 @@ const BRANCH: u32 = 3;
 pub const HIT: u32 = 0;
 
 pub const MISS: u32 = 1;
+
+// The kind by its name; a number that the rules refuse reads as plain.
+pub fn kind(f: Fields) -> Kind
+    ensures { λ r. ⌜ kindNamed r ≡ instructionOf f .kind ⌝ }
+{
+    let number = f.kind;
+    match number {
+        LOAD => Kind::Load,
+        STORE => Kind::Store,
+        BRANCH => Kind::Branch,
+        _ => Kind::Plain,
+    }
+}
 
 pub fn is_load(f: Fields) -> bool
     ensures { λ r. ⌜ r ≡ isLoad (instructionOf f .kind) ⌝ }

@@ -22,6 +22,7 @@ pub use kinds::fetch_hits;
 pub use kinds::holds_fetches;
 pub use kinds::is_load;
 pub use kinds::is_store;
+pub use kinds::kind;
 pub use kinds::misses_data;
 pub use kinds::reads_in_id;
 pub use waits::pending;

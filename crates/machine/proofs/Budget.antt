@@ -12,7 +12,7 @@ use Rattle.machine.specs.Rules.{Stage, pre, IF, ID, EX, MEM, ST, WB, pos
 use Rattle.machine.specs.Claims.{KeepsSentences, BudgetNeverDecides, SentencesDecide}
 use Rattle.machine.proofs.Connectives.{Value, passed, failed, value, clash, and-failed-l, and-left, or-l, not-passes, every-same}
 use Rattle.machine.proofs.Stages.{same-stage, eight}
-use Rattle.machine.proofs.Doing.{after-MEM}
+use Rattle.machine.proofs.Doing.{nextIn, next-in}
 
 before-post : (s : Stage) → same s post ≡ false → rank s < 6
 before-post =
@@ -26,22 +26,22 @@ before-post =
     (λ h. omega arith)
     (λ h. clash refl h)
 
-rank-last : (lane : Bool) → rank (cond lane ST WB) ≡ 5
-rank-last true = refl
-rank-last false = refl
+rank-along : (lane : Bool) (s : Stage) → same s post ≡ false → rank (nextIn lane s) ≡ suc (rank s)
+unfolding nextIn
+rank-along lane pre h = refl
+rank-along lane IF h = refl
+rank-along lane ID h = refl
+rank-along lane EX h = refl
+rank-along true MEM h = refl
+rank-along false MEM h = refl
+rank-along lane ST h = refl
+rank-along lane WB h = refl
+rank-along lane post h = clash refl h
 
 rank-next : (kind : Kind) (s : Stage) → same s post ≡ false → rank (next kind s) ≡ suc (rank s)
-unfolding next
-rank-next kind pre h = refl
-rank-next kind IF h = refl
-rank-next kind ID h = refl
-rank-next kind EX h = refl
-rank-next kind MEM h = ap rank (after-MEM kind) ∙ rank-last (isStore kind)
-rank-next kind ST h = refl
-rank-next kind WB h = refl
-rank-next kind post h = clash refl h
+rank-next kind s h = ap rank (next-in kind s) ∙ rank-along (isStore kind) s h
 
-budget-next : (kind : Kind) (s : Stage) → same s post ≡ false → budget s ≡ suc (suc (budget (next kind s)))
+pub budget-next : (kind : Kind) (s : Stage) → same s post ≡ false → budget s ≡ suc (suc (budget (next kind s)))
 unfolding budget
 budget-next kind s h = let r = rank-next kind s h in let l = before-post s h in omega arith
 

@@ -12,6 +12,7 @@ use Rattle.machine.specs.State.{emptySlot, slot}
 use Rattle.machine.specs.declared.Slot.{Slot}
 use Rattle.machine.specs.declared.State.{State}
 use Rattle.machine.proofs.Connectives.{clash}
+use Rattle.machine.proofs.Doing.{nextIn}
 use Rattle.machine.proofs.Hazards.{detains}
 
 -- the instruction in a stage that may move on; in pre, the one to be fetched next
@@ -51,17 +52,6 @@ occupied trace s k = standing trace s k .filled
 
 unfoldable pub storeInMEM : Trace → State → Bool
 storeInMEM trace s = isStore (instruction trace (s .MEM .index) .kind)
-
--- the stage after another, given whether MEM holds a store
-unfoldable pub nextIn : Bool → Stage → Stage
-nextIn inMEM pre = IF
-nextIn inMEM IF = ID
-nextIn inMEM ID = EX
-nextIn inMEM EX = MEM
-nextIn inMEM MEM = cond inMEM ST WB
-nextIn inMEM ST = post
-nextIn inMEM WB = post
-nextIn inMEM post = post
 
 -- "Moves" and "will be free" over these bits, with the budget of the rules.
 unfoldable mutual
@@ -127,8 +117,12 @@ takes inMEM ST = inMEM
 takes inMEM WB = not inMEM
 takes inMEM post = false
 
+-- something comes into a stage when the stage before is left, and what leaves it goes there
+abbrev pub arrivesIn : (Stage → Bool) → Bool → Stage → Bool
+arrivesIn leaving inMEM k = leaving (stageBefore k) and takes inMEM k
+
 unfoldable pub arrives : Trace → State → Stage → Bool
-arrives trace s k = leaves trace s (stageBefore k) and takes (storeInMEM trace s) k
+arrives trace s k = arrivesIn (leaves trace s) (storeInMEM trace s) k
 
 -- a slot after the cycle: what comes in, else what stays, its count less 1, else nothing
 unfoldable pub slotAfter : Bool → ℕ → ℕ → Bool → Slot → Slot

@@ -9,33 +9,33 @@ use Rattle.machine.specs.Cases.{cases, further, valueLoaded, nothingLoad
 use Rattle.machine.specs.Claims.{CasesHold, FurtherHold, LateValuesHold, HitCasesHold, ChartHolds, ValueChartHolds, HitChartHolds, ValueWaits}
 
 pub cases-hold : CasesHold
-unfolding _and_ _or_ every none next furtherOn shortOf entry noOlder readsInID readsInEX missesData readyIn ready budget movesWithin moves cycle allPre after allLeft bound leastFrom finish settle best worst withHits cases casesHold
+unfolding _and_ _or_ every none furtherOn shortOf entry noOlder readsInID readsInEX missesData readyIn ready budget movesWithin moves cycle allPre after allLeft bound leastFrom finish settle best worst withHits cases casesHold
 cases-hold = tt
 
 pub further-hold : FurtherHold
-unfolding _and_ _or_ every none next furtherOn shortOf entry noOlder readsInID readsInEX missesData readyIn ready budget movesWithin moves cycle allPre after allLeft bound leastFrom finish settle best worst withHits further casesHold
+unfolding _and_ _or_ every none furtherOn shortOf entry noOlder readsInID readsInEX missesData readyIn ready budget movesWithin moves cycle allPre after allLeft bound leastFrom finish settle best worst withHits further casesHold
 further-hold = tt
 
 pub late-values-hold : LateValuesHold
-unfolding _and_ _or_ every none next furtherOn shortOf entry noOlder readsInID readsInEX missesData readyIn ready budget movesWithin moves cycle allPre after allLeft bound leastFrom finish settle best worst withHits lateValues casesHold
+unfolding _and_ _or_ every none furtherOn shortOf entry noOlder readsInID readsInEX missesData readyIn ready budget movesWithin moves cycle allPre after allLeft bound leastFrom finish settle best worst withHits lateValues casesHold
 late-values-hold = tt
 
 pub hit-cases-hold : HitCasesHold
-unfolding _and_ _or_ every none next furtherOn shortOf entry noOlder readsInID readsInEX missesData readyIn ready budget movesWithin moves cycle allPre after allLeft bound leastFrom finish settle best worst withHits hitCases casesHold
+unfolding _and_ _or_ every none furtherOn shortOf entry noOlder readsInID readsInEX missesData readyIn ready budget movesWithin moves cycle allPre after allLeft bound leastFrom finish settle best worst withHits hitCases casesHold
 hit-cases-hold = tt
 
 pub chart-holds : ChartHolds
-unfolding _and_ _or_ every none next furtherOn shortOf entry noOlder readsInID readsInEX missesData readyIn ready budget movesWithin moves cycle allPre after fetchedBelow occupantBelow stateOf caseD rows chartOfD
+unfolding _and_ _or_ every none furtherOn shortOf entry noOlder readsInID readsInEX missesData readyIn ready budget movesWithin moves cycle allPre after fetchedBelow occupantBelow stateOf caseD rows chartOfD
 chart-holds = refl
 
 pub value-chart-holds : ValueChartHolds
-unfolding _and_ _or_ every none next furtherOn shortOf entry noOlder readsInID readsInEX missesData readyIn ready budget movesWithin moves cycle allPre after fetchedBelow occupantBelow stateOf valueLoaded rows chartOfValue
+unfolding _and_ _or_ every none furtherOn shortOf entry noOlder readsInID readsInEX missesData readyIn ready budget movesWithin moves cycle allPre after fetchedBelow occupantBelow stateOf valueLoaded rows chartOfValue
 value-chart-holds = refl
 
 pub hit-chart-holds : HitChartHolds
-unfolding _and_ _or_ every none next furtherOn shortOf entry noOlder readsInID readsInEX missesData readyIn ready budget movesWithin moves cycle allPre after fetchedBelow occupantBelow stateOf withHits storeAndLoad rows chartOfHits
+unfolding _and_ _or_ every none furtherOn shortOf entry noOlder readsInID readsInEX missesData readyIn ready budget movesWithin moves cycle allPre after fetchedBelow occupantBelow stateOf withHits storeAndLoad rows chartOfHits
 hit-chart-holds = refl
 
 pub value-waits : ValueWaits
-unfolding _and_ _or_ every none next furtherOn shortOf entry noOlder readsInID readsInEX missesData readyIn ready budget movesWithin moves cycle allPre after valueLoaded nothingLoaded
+unfolding _and_ _or_ every none furtherOn shortOf entry noOlder readsInID readsInEX missesData readyIn ready budget movesWithin moves cycle allPre after valueLoaded nothingLoaded
 value-waits = (refl, refl)

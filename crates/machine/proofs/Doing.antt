@@ -1,8 +1,9 @@
 -- What an instruction does, by its kind. The theory goes by these facts alone, so that a kind more is a line in each and no case in a proof.
 use mathlib.Core.Bool.{Bool, true, false, cond}
-use mathlib.Core.Path.{_≡_, refl}
+use mathlib.Core.Path.{_≡_, refl, _∙_}
 use Rattle.machine.specs.Instruction.{Kind, plain, load, store, branch}
-use Rattle.machine.specs.Rules.{MEM, ST, WB, next, isLoad, isStore, holdsFetches}
+use Rattle.machine.specs.Rules.{Stage, pre, IF, ID, EX, MEM, ST, WB, post, next, isLoad, isStore, holdsFetches}
+use Rattle.machine.proofs.Stages.{eight}
 
 -- of the three things that others wait for, an instruction does one or none: it holds fetches back, loads, or stores
 pub data Does : Bool → Bool → Bool → Type 0 where
@@ -17,9 +18,27 @@ does load = loading
 does store = storing
 does branch = holding
 
-pub after-MEM : (kind : Kind) → next kind MEM ≡ cond (isStore kind) ST WB
-unfolding next
-after-MEM plain = refl
-after-MEM load = refl
-after-MEM store = refl
-after-MEM branch = refl
+-- the stage after another, by the lane: a store's, or that of any other kind
+unfoldable pub nextIn : Bool → Stage → Stage
+nextIn lane pre = IF
+nextIn lane IF = ID
+nextIn lane ID = EX
+nextIn lane EX = MEM
+nextIn lane MEM = cond lane ST WB
+nextIn lane ST = post
+nextIn lane WB = post
+nextIn lane post = post
+
+pub next-in : (kind : Kind) (k : Stage) → next kind k ≡ nextIn (isStore kind) k
+unfolding nextIn
+next-in plain = eight (λ k. next plain k ≡ nextIn false k) refl refl refl refl refl refl refl refl
+next-in load = eight (λ k. next load k ≡ nextIn false k) refl refl refl refl refl refl refl refl
+next-in store = eight (λ k. next store k ≡ nextIn true k) refl refl refl refl refl refl refl refl
+next-in branch = eight (λ k. next branch k ≡ nextIn false k) refl refl refl refl refl refl refl refl
+
+-- of the lanes only that in MEM matters
+pub next-by-lane : (kinds : Stage → Kind) (k : Stage) → next (kinds k) k ≡ nextIn (isStore (kinds MEM)) k
+unfolding nextIn
+next-by-lane kinds k =
+    next-in (kinds k) k
+    ∙ eight (λ k. nextIn (isStore (kinds k)) k ≡ nextIn (isStore (kinds MEM)) k) refl refl refl refl refl refl refl refl k

@@ -6,14 +6,15 @@ use mathlib.Core.Bool.{Bool, true, false, not, cond}
 use mathlib.Core.Path.{_≡_, refl, sym, ap, subst, _∙_}
 use borrow.Author.Tests.{not-true}
 use Rattle.machine.specs.Test.{_and_}
-use Rattle.machine.specs.Instruction.{Trace, instruction}
-use Rattle.machine.specs.Rules.{Stage, pre, IF, ID, EX, MEM, ST, WB, post, same, entry, budget}
+use Rattle.machine.specs.Instruction.{Kind, Trace, instruction}
+use Rattle.machine.specs.Rules.{Stage, pre, IF, ID, EX, MEM, ST, WB, post, next, same, isStore, entry, budget}
 use Rattle.machine.specs.State.{emptySlot, slot, younger}
 use Rattle.machine.specs.declared.Slot.{Slot}
 use Rattle.machine.specs.declared.State.{State}
 use Rattle.machine.proofs.Connectives.{clash, Value, passed, failed, value, and-l, and-r, and-true, or-else, implies}
 use Rattle.machine.proofs.Stages.{same-stage, inside, inside-not-post}
-use Rattle.machine.proofs.BySlots.{standing, goes, occupied, storeInMEM, nextIn, movesIn, movesAt, freeAt, moves-at, free-at, leaves, stageBefore, takes, arrives, slotAfter, newSlot, stepBySlots}
+use Rattle.machine.proofs.Doing.{nextIn, next-by-lane}
+use Rattle.machine.proofs.BySlots.{standing, goes, occupied, storeInMEM, movesIn, movesAt, freeAt, moves-at, free-at, leaves, stageBefore, takes, arrives, slotAfter, newSlot, stepBySlots}
 use Rattle.machine.proofs.Moving.{standing-slot}
 
 -- a slot after the cycle, by what happened to it
@@ -45,6 +46,23 @@ takes-next false ST e = clash e refl
 takes-next true WB e = clash e refl
 takes-next false WB e = refl
 takes-next inMEM post e = clash e refl
+
+takes-along : (lane : Bool) (k : Stage) → inside k ≡ true → same (nextIn lane (stageBefore k)) k ≡ takes lane k
+unfolding takes nextIn stageBefore
+takes-along lane pre w = clash w refl
+takes-along lane IF w = refl
+takes-along lane ID w = refl
+takes-along lane EX w = refl
+takes-along lane MEM w = refl
+takes-along true ST w = refl
+takes-along false ST w = refl
+takes-along true WB w = refl
+takes-along false WB w = refl
+takes-along lane post w = clash w refl
+
+-- the same by the kinds of what stands in the stages
+pub takes-by-next : (kinds : Stage → Kind) (k : Stage) → inside k ≡ true → same (next (kinds (stageBefore k)) (stageBefore k)) k ≡ takes (isStore (kinds MEM)) k
+takes-by-next kinds k w = ap (λ (to : Stage). same to k) (next-by-lane kinds (stageBefore k)) ∙ takes-along (isStore (kinds MEM)) k w
 
 module _ (trace : Trace) (s : State) where
   pub after-cycle : (k : Stage) → After trace s k (newSlot trace s k)

@@ -8,7 +8,7 @@ use Rattle.machine.specs.Hits.{withHit, withHits}
 use Rattle.machine.specs.declared.Slot.{Slot}
 use Rattle.machine.specs.declared.State.{State}
 use Rattle.machine.proofs.Hazards.{asksFor, waitsFor}
-use Rattle.machine.proofs.BySlots.{standing, holdsBack, heldBack, goes, occupied, storeInMEM, movesAt, leaves}
+use Rattle.machine.proofs.BySlots.{standing, holdsBack, heldBack, goes, occupied, storeInMEM, movesAt, leaves, arrivesIn, arrives}
 use Rattle.machine.proofs.Hits.{length-hits, instruction-hits}
 
 asks-alike : (h : ℕ) (k : Stage) (i j : Instruction) → asksFor k (withHit h i) (withHit h j) ≡ asksFor k i j
@@ -76,3 +76,7 @@ module _ (h : ℕ) (trace : Trace) (s : State) where
   pub leaves-alike : leaves (withHits h trace) s ≡ leaves trace s
   unfolding leaves
   leaves-alike = λ t k. movesAt (goes-alike t) (occupied-alike t) (store-alike t) k
+
+  pub arrives-alike : arrives (withHits h trace) s ≡ arrives trace s
+  unfolding arrives
+  arrives-alike = λ t k. arrivesIn (leaves-alike t) (store-alike t) k

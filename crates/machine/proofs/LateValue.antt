@@ -14,6 +14,7 @@ use Rattle.machine.specs.Claims.{ValueNeverDecides}
 use Rattle.machine.specs.declared.State.{State}
 use Rattle.machine.proofs.Connectives.{clash, Value, passed, failed, value, and-l, and-r, and-failed-l, and-failed-r, and-true, or-failed, every-fails, none-below}
 use Rattle.machine.proofs.Stages.{stage-same}
+use Rattle.machine.proofs.Doing.{nextIn, next-in}
 use Rattle.machine.proofs.Budget.{budget-never-decides}
 use Rattle.machine.proofs.Spots.{Spot, waiting, held, left, held-filled, held-index, spot, slot-fetched, further-older, place-held, held-at}
 
@@ -84,7 +85,7 @@ module _ (trace : Trace) (s : State) (o : Orderly trace s) (i : ℕ) (at-EX : pl
   moving :
       moves trace (placeOf s) i
       ≡ (eqb (placeOf s i .count) 0 and accessReady trace (placeOf s) i and willBeFree trace (placeOf s) MEM)
-  unfolding ready readyIn next _and_
+  unfolding ready readyIn nextIn _and_
   moving =
       budget-never-decides trace (placeOf s) .moving i
       ∙ ap
@@ -94,6 +95,9 @@ module _ (trace : Trace) (s : State) (o : Orderly trace s) (i : ℕ) (at-EX : pl
       and readyIn k trace (placeOf s) i
       and willBeFree trace (placeOf s) (next (instruction trace i .kind) k))
       at-EX
+      ∙ ap
+      (λ (to : Stage). eqb (placeOf s i .count) 0 and readyIn EX trace (placeOf s) i and willBeFree trace (placeOf s) to)
+      (next-in (instruction trace i .kind) EX)
       ∙ without-value (eqb (placeOf s i .count) 0) (accessReady trace (placeOf s) i) (value (valueReady trace (placeOf s) i)) (kept-busy (value _))
 
 pub value-never-decides : ValueNeverDecides

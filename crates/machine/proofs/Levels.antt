@@ -7,7 +7,7 @@ use Rattle.machine.specs.Instruction.{Kind}
 use Rattle.machine.specs.Rules.{Stage, pre, IF, ID, EX, MEM, ST, WB, post, next, rank, same, isStore}
 use Rattle.machine.proofs.Numbers.{Last, below, at, last}
 use Rattle.machine.proofs.Stages.{same-stage, stage-same, stages-differ}
-use Rattle.machine.proofs.Doing.{after-MEM}
+use Rattle.machine.proofs.Doing.{nextIn, next-in}
 use Rattle.machine.proofs.Schedule.{Behaviour, shares, Together, early, late, together, shares-early, shares-last}
 
 -- the stage of a level, by the lane: ST is the last stage of a store's lane, WB of the other
@@ -81,17 +81,16 @@ same-shares b i j s l e = pick (last s 5 (omega arith))
         subst (λ (x : ℕ). shares b i j x ≡ true) (sym f) (shares-last b i j (sym (lane-of (b .lane j)) ∙ ap isST g5 ∙ lane-of (b .lane i)))
 
 -- the next stage is the stage of the next level
-after-last : (kind : Kind) (lane : Bool) → next kind (stageAlong lane 5) ≡ post
-unfolding next
-after-last kind true = refl
-after-last kind false = refl
+next-along : (lane : Bool) (s : ℕ) → s < 6 → nextIn lane (stageAlong lane s) ≡ stageAlong lane (suc s)
+unfolding nextIn
+next-along lane zero l = refl
+next-along lane (suc zero) l = refl
+next-along lane (suc (suc zero)) l = refl
+next-along lane (suc (suc (suc zero))) l = refl
+next-along lane (suc (suc (suc (suc zero)))) l = refl
+next-along true (suc (suc (suc (suc (suc zero))))) l = refl
+next-along false (suc (suc (suc (suc (suc zero))))) l = refl
+next-along lane (suc (suc (suc (suc (suc (suc s)))))) l = absurd (omega arith)
 
 pub next-stage : (kind : Kind) (s : ℕ) → s < 6 → next kind (stageAlong (isStore kind) s) ≡ stageAlong (isStore kind) (suc s)
-unfolding next
-next-stage kind zero l = refl
-next-stage kind (suc zero) l = refl
-next-stage kind (suc (suc zero)) l = refl
-next-stage kind (suc (suc (suc zero))) l = refl
-next-stage kind (suc (suc (suc (suc zero)))) l = after-MEM kind
-next-stage kind (suc (suc (suc (suc (suc zero))))) l = after-last kind (isStore kind)
-next-stage kind (suc (suc (suc (suc (suc (suc s)))))) l = absurd (omega arith)
+next-stage kind s l = next-in kind (stageAlong (isStore kind) s) ∙ next-along (isStore kind) s l

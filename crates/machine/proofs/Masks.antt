@@ -10,14 +10,10 @@ use Rattle.machine.specs.Rules.{Stage, pre, IF, ID, EX, MEM, ST, WB, pos
 use Rattle.machine.specs.declared.State.{State}
 use Rattle.machine.proofs.Connectives.{true-and, or-l, or-r, and-failed-l}
 use Rattle.machine.proofs.Stages.{stageNumber, stageAt, eight}
-use Rattle.machine.proofs.Doing.{Does, holding, loading, storing, nothing, does}
+use Rattle.machine.proofs.Doing.{Does, holding, loading, storing, nothing, does, nextIn}
 use Rattle.machine.proofs.Hazards.{goalOf, goal, pendingTo, pending}
-use Rattle.machine.proofs.BySlots.{standing, goes, occupied, nextIn, movesAt, freeAt, moves-at, free-at}
+use Rattle.machine.proofs.BySlots.{standing, goes, occupied, movesAt, freeAt, moves-at, free-at}
 use Rattle.machine.proofs.Flow.{bit}
-
--- the number of the stage after another, given whether MEM holds a store
-abbrev pub nextNumber : Bool → ℕ → ℕ
-nextNumber inMEM at = cond (eqb at 4) (cond inMEM 5 6) (cond (eqb at 5) 7 (at + 1))
 
 -- a stage's bit of a mask, by its number, and a mask's bits by stage
 abbrev pub bitAt : ℕ → ℕ → Bool
@@ -42,52 +38,28 @@ upTo P a b c d e f g h (suc (suc (suc (suc (suc (suc zero)))))) l = g
 upTo P a b c d e f g h (suc (suc (suc (suc (suc (suc (suc zero))))))) l = h
 upTo P a b c d e f g h (suc (suc (suc (suc (suc (suc (suc (suc n)))))))) l = absurd (omega arith)
 
-pub number-stage : (n : ℕ) → n ≤ 7 → stageNumber (stageAt n) ≡ n
-number-stage = upTo (λ n. stageNumber (stageAt n) ≡ n) refl refl refl refl refl refl refl refl
-
-from-MEM : (inMEM : Bool) → cond inMEM ST WB ≡ stageAt (cond inMEM 5 6)
-from-MEM true = refl
-from-MEM false = refl
-
-pub next-number : (inMEM : Bool) (n : ℕ) → n ≤ 7 → nextIn inMEM (stageAt n) ≡ stageAt (nextNumber inMEM n)
-unfolding nextIn
-next-number inMEM = upTo (λ n. nextIn inMEM (stageAt n) ≡ stageAt (nextNumber inMEM n)) refl refl refl refl (from-MEM inMEM) refl refl refl
-
-not-post : (n : ℕ) → n < 7 → same (stageAt n) post ≡ false
-not-post n h =
-    upTo (λ n. n < 7 → same (stageAt n) post ≡ false) (λ l. refl) (λ l. refl) (λ l. refl) (λ l. refl) (λ l. refl) (λ l. refl) (λ l. refl)
-    (λ l. absurd (omega arith))
-    n
-    (omega arith)
-    h
-
 -- "Moves" and "will be free" over masks, one law for each path through the code.
-module _ (going full : ℕ) (inMEM : Bool) (n : ℕ) (h : n < 7) where
-  at-number : (mask : ℕ) → bits mask (stageAt n) ≡ bitAt mask n
-  at-number mask = ap (bitAt mask) (number-stage n (omega arith))
+module _ (going full : ℕ) (inMEM : Bool) (k : Stage) (h : same k post ≡ false) where
+  pub moves-off : bits going k ≡ false → movesAt (bits going) (bits full) inMEM k ≡ false
+  moves-off e = moves-at (bits going) (bits full) inMEM k h ∙ and-failed-l _ _ e
 
-  pub moves-off : bitAt going n ≡ false → movesAt (bits going) (bits full) inMEM (stageAt n) ≡ false
-  moves-off e = moves-at (bits going) (bits full) inMEM (stageAt n) (not-post n h) ∙ and-failed-l _ _ (at-number going ∙ e)
-
-  pub moves-on :
-      bitAt going n ≡ true →
-      movesAt (bits going) (bits full) inMEM (stageAt n) ≡ freeAt (bits going) (bits full) inMEM (stageAt (nextNumber inMEM n))
+  pub moves-on : bits going k ≡ true → movesAt (bits going) (bits full) inMEM k ≡ freeAt (bits going) (bits full) inMEM (nextIn inMEM k)
   moves-on e =
-      moves-at (bits going) (bits full) inMEM (stageAt n) (not-post n h)
-      ∙ ap₂ _and_ (at-number going ∙ e) (ap (freeAt (bits going) (bits full) inMEM) (next-number inMEM n (omega arith)))
+      moves-at (bits going) (bits full) inMEM k h
+      ∙ ap (λ (b : Bool). b and freeAt (bits going) (bits full) inMEM (nextIn inMEM k)) e
       ∙ true-and _
 
-  pub free-empty : bitAt full n ≡ false → freeAt (bits going) (bits full) inMEM (stageAt n) ≡ true
-  free-empty e = free-at (bits going) (bits full) inMEM (stageAt n) ∙ or-r _ _ (or-l _ _ (ap not (at-number full ∙ e)))
+  pub free-empty : bits full k ≡ false → freeAt (bits going) (bits full) inMEM k ≡ true
+  free-empty e = free-at (bits going) (bits full) inMEM k ∙ or-r _ _ (or-l _ _ (ap not e))
 
-  pub free-filled : bitAt full n ≡ true → freeAt (bits going) (bits full) inMEM (stageAt n) ≡ movesAt (bits going) (bits full) inMEM (stageAt n)
+  pub free-filled : bits full k ≡ true → freeAt (bits going) (bits full) inMEM k ≡ movesAt (bits going) (bits full) inMEM k
   unfolding _or_
   free-filled e =
-      free-at (bits going) (bits full) inMEM (stageAt n)
-      ∙ ap₂ _or_ (not-post n h) (ap (λ (b : Bool). not b or movesAt (bits going) (bits full) inMEM (stageAt n)) (at-number full ∙ e))
+      free-at (bits going) (bits full) inMEM k
+      ∙ ap₂ _or_ h (ap (λ (b : Bool). not b or movesAt (bits going) (bits full) inMEM k) e)
 
-pub free-post : (going full : ℕ) (inMEM : Bool) → freeAt (bits going) (bits full) inMEM (stageAt 7) ≡ true
-free-post going full inMEM = free-at (bits going) (bits full) inMEM post ∙ or-l _ _ refl
+pub free-post : (going full : ℕ) (inMEM : Bool) (k : Stage) → same k post ≡ true → freeAt (bits going) (bits full) inMEM k ≡ true
+free-post going full inMEM k e = free-at (bits going) (bits full) inMEM k ∙ or-l _ _ e
 
 -- a mask has the bits that it was made of
 small : (b : Bool) → bit b ≤ 1

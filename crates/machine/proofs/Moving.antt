@@ -15,8 +15,8 @@ use Rattle.machine.specs.declared.State.{State}
 use Rattle.machine.proofs.Connectives.{clash, Value, passed, failed, value, both-ways, and-failed-l, and-failed-r, implied, implies, or-l, true-and, every-at, every-below, none-fails}
 use Rattle.machine.proofs.Stages.{same-stage, stage-same, inside}
 use Rattle.machine.proofs.Spots.{held-filled, held-index, held-at, slot-fetched, place-held, place-waiting}
-use Rattle.machine.proofs.Doing.{after-MEM}
-use Rattle.machine.proofs.BySlots.{standing, heldBack, goes, occupied, storeInMEM, nextIn, freeAt, moves-at, free-at, leaves}
+use Rattle.machine.proofs.Doing.{nextIn, next-in, next-by-lane}
+use Rattle.machine.proofs.BySlots.{standing, heldBack, goes, occupied, storeInMEM, freeAt, moves-at, free-at, leaves}
 use Rattle.machine.proofs.Budget.{budget-never-decides}
 use Rattle.machine.proofs.Hazards.{readyAsked}
 use Rattle.machine.proofs.Ready.{ready-by-slots}
@@ -60,15 +60,8 @@ module _ (trace : Trace) (s : State) (o : Orderly trace s) where
   standing-fetched post f = clash f refl
 
   pub standing-next : (k : Stage) → next (instruction trace (standing trace s k .index) .kind) k ≡ nextIn (storeInMEM trace s) k
-  unfolding standing next nextIn storeInMEM
-  standing-next pre = refl
-  standing-next IF = refl
-  standing-next ID = refl
-  standing-next EX = refl
-  standing-next MEM = after-MEM (instruction trace (s .MEM .index) .kind)
-  standing-next ST = refl
-  standing-next WB = refl
-  standing-next post = refl
+  unfolding standing storeInMEM
+  standing-next = next-by-lane (λ k. instruction trace (standing trace s k .index) .kind)
 
   abbrev at : Stage → ℕ
   at k = standing trace s k .index
@@ -103,14 +96,15 @@ module _ (trace : Trace) (s : State) (o : Orderly trace s) where
       ∙ rw (n, true-and, e)
 
   said : (k : Stage) → standing trace s k .filled ≡ true → Said k
-  unfolding Said readyAsked standing next
+  unfolding Said readyAsked standing nextIn
   said pre f = as-ready pre refl refl f
   said IF f = as-ready IF refl refl f
   said ID f = as-ready ID refl refl f
   said EX f =
       let p = standing-place EX f in
       value-never-decides trace s o (s .EX .index) (ap (λ (p : Place). p .stage) p) .1
-      ∙ ap (λ (p : Place). eqb (p .count) 0 and accessReady trace (placeOf s) (s .EX .index) and willBeFree trace (placeOf s) MEM) p
+      ∙ ap₂ (λ (p : Place) (to : Stage). eqb (p .count) 0 and accessReady trace (placeOf s) (s .EX .index) and willBeFree trace (placeOf s) to) p
+      (sym (next-in (instruction trace (s .EX .index) .kind) EX))
   said MEM f = as-ready MEM refl refl f
   said ST f = as-ready ST refl refl f
   said WB f = as-ready WB refl refl f

@@ -17,7 +17,8 @@ use Rattle.machine.proofs.Connectives.{clash, Value, passed, failed, va
 use Rattle.machine.proofs.Stages.{inside}
 use Rattle.machine.proofs.Places.{state-agrees}
 use Rattle.machine.proofs.Spots.{Spot, waiting, held, left, spot, slot-inside, place-waiting, places-give-state}
-use Rattle.machine.proofs.BySlots.{standing, storeInMEM, nextIn, leaves, stageBefore, takes, arrives, newSlot, stepBySlots}
+use Rattle.machine.proofs.Doing.{nextIn}
+use Rattle.machine.proofs.BySlots.{standing, storeInMEM, leaves, stageBefore, takes, arrives, newSlot, stepBySlots}
 use Rattle.machine.proofs.Moving.{standing-slot, standing-place, standing-next, moves-by-slots, waiting-stays, left-stays}
 use Rattle.machine.proofs.Flow.{After, came, stayed, vacant, after-cycle, takes-next, leaves-filled, arrives-free, bit, fetched-after}
 use Rattle.machine.proofs.StepOrderly.{step-keeps-orderly}

@@ -15,7 +15,8 @@ use Rattle.machine.specs.declared.State.{State}
 use Rattle.machine.proofs.Connectives.{clash, Value, passed, failed, value, and-l, and-r, and-both, and-true, or-failed, and-failed-r, or-l}
 use Rattle.machine.proofs.Stages.{eight, inside}
 use Rattle.machine.proofs.Hazards.{waitsFor, asksFor}
-use Rattle.machine.proofs.BySlots.{standing, holdsBack, heldBack, goes, occupied, storeInMEM, nextIn, moves-at, free-at, leaves, stageBefore, takes, arrives, stepBySlots}
+use Rattle.machine.proofs.Doing.{nextIn}
+use Rattle.machine.proofs.BySlots.{standing, holdsBack, heldBack, goes, occupied, storeInMEM, moves-at, free-at, leaves, stageBefore, takes, arrives, stepBySlots}
 use Rattle.machine.proofs.Flow.{After, came, stayed, vacant, after-cycle, leaves-filled, bit, fetched-after, younger-after}
 
 module _ (trace : Trace) (s : State) (o : Orderly trace s) where

@@ -1,6 +1,7 @@
 pub mod Test
 pub mod Instruction
 pub mod Rules
+pub mod Named
 pub mod Time
 pub mod Hits
 pub mod Before

@@ -5,27 +5,52 @@ use lib.Dec.{ltb, eqb}
 use lib.ListN.{length}
 use Rattle.machine.specs.Test.{_and_, _or_, every, none}
 use Rattle.machine.specs.Instruction.{Kind, plain, load, store, branch, Flag, hit, miss, unknown, Instruction, Trace, instruction}
-
 -- "Stages run pre, IF, ID, EX, MEM, then ST for a store or WB for any other kind, then post."
 pub data Stage : Type 0 where
   pre IF ID EX MEM ST WB post : Stage
 
-afterMEM : Kind → Stage
-afterMEM plain = WB
-afterMEM load = WB
-afterMEM store = ST
-afterMEM branch = WB
-
-unfoldable pub next : Kind → Stage → Stage
-unfolding afterMEM
-next kind pre = IF
-next kind IF = ID
-next kind ID = EX
-next kind EX = MEM
-next kind MEM = afterMEM kind
-next kind ST = post
-next kind WB = post
-next kind post = post
+-- The next stage; document 02, F-5: "let each stage and kind have its own case, in the figure's order". The lines above the cases are the figure's.
+abbrev pub next : Kind → Stage → Stage
+-- post : stage(i) ∈ {ST, WB}
+next plain ST = post
+next load ST = post
+next store ST = post
+next branch ST = post
+next plain WB = post
+next load WB = post
+next store WB = post
+next branch WB = post
+-- WB : stage(i) = MEM ∧ opc(i) ≠ store
+next plain MEM = WB
+next load MEM = WB
+next branch MEM = WB
+-- ST : stage(i) = MEM ∧ opc(i) = store
+next store MEM = ST
+-- MEM : stage(i) = EX
+next plain EX = MEM
+next load EX = MEM
+next store EX = MEM
+next branch EX = MEM
+-- EX : stage(i) = ID ∧ opc(i) ≠ nop
+next plain ID = EX
+next load ID = EX
+next store ID = EX
+next branch ID = EX
+-- ID : stage(i) = IF
+next plain IF = ID
+next load IF = ID
+next store IF = ID
+next branch IF = ID
+-- IF : stage(i) = pre
+next plain pre = IF
+next load pre = IF
+next store pre = IF
+next branch pre = IF
+-- "an instruction in post stays there"; the figure has no such line
+next plain post = post
+next load post = post
+next store post = post
+next branch post = post
 
 -- how many stages an instruction passes through before this one
 abbrev pub rank : Stage → ℕ

@@ -5,6 +5,16 @@ ghost use Rattle.machine.specs.State.{start};
 
 pub mod stage;
 
+pub use stage::Stage;
+
+// What an instruction is, by how it goes through the pipeline and what others wait for.
+pub enum Kind {
+    Plain,
+    Load,
+    Store,
+    Branch,
+}
+
 // A stage's slot: empty (index and count 0), or an instruction's index with its remaining count.
 #[repr(C)]
 pub struct Slot {

@@ -1,20 +1,19 @@
 // Who moves: "moves" and "will be free" over two masks, a bit for each stage from pre 0 to WB 6.
 ghost use mathlib.Core.Path.{_≡_};
-ghost use mathlib.Core.Bool.{not, _||_};
-ghost use Prim.Native.Nat.{_<_, _≤_};
-ghost use Rattle.machine.proofs.Stages.{stageAt};
-ghost use Rattle.machine.proofs.BySlots.{movesAt, freeAt};
+ghost use mathlib.Core.Bool.{false, not, _||_};
+ghost use Prim.Native.Nat.{_≤_};
+ghost use Rattle.machine.specs.Test.{_and_};
+ghost use Rattle.machine.specs.Rules.{MEM, post, next, same, isStore};
+ghost use Rattle.machine.specs.Named.{kindNamed, stageNamed};
+ghost use Rattle.machine.proofs.BySlots.{movesAt, freeAt, arrivesIn};
 ghost use Rattle.machine.proofs.Flow.{bit};
-ghost use Rattle.machine.proofs.Masks.{nextNumber, bitAt, bits, maskOf};
-ghost use Rattle.moving.specs.Inner.{bitsOf, bitOf};
-use machine::stage::EX;
-use machine::stage::ID;
-use machine::stage::IF;
-use machine::stage::MEM;
-use machine::stage::POST;
-use machine::stage::PRE;
-use machine::stage::ST;
-use machine::stage::WB;
+ghost use Rattle.machine.proofs.Masks.{bits, maskOf};
+ghost use Rattle.moving.specs.Inner.{bitsOf, bitOf, kindIn};
+use following::next;
+use machine::Kind;
+use machine::Stage;
+use machine::stage::number;
+use machine::stage::same;
 
 // A bit for each stage that an instruction can move out of.
 pub struct Bits {
@@ -25,6 +24,17 @@ pub struct Bits {
     pub MEM: bool,
     pub ST: bool,
     pub WB: bool,
+}
+
+// The kind of the instruction in each of these stages; of an empty one it may be any.
+pub struct Kinds {
+    pub pre: Kind,
+    pub IF: Kind,
+    pub ID: Kind,
+    pub EX: Kind,
+    pub MEM: Kind,
+    pub ST: Kind,
+    pub WB: Kind,
 }
 
 fn digit(b: bool) -> u32
@@ -55,66 +65,87 @@ pub fn none(b: Bits) -> bool
     !(b.pre | b.IF | b.ID | b.EX | b.MEM | b.ST | b.WB)
 }
 
-fn bit(mask: u32, stage: u32) -> bool
-    requires { ⌜ stage < 8 ⌝ }
-    ensures { λ r. ⌜ r ≡ bitAt mask stage ⌝ }
+fn bit(mask: u32, stage: Stage) -> bool
+    ensures { λ r. ⌜ r ≡ bits mask (stageNamed stage) ⌝ }
 {
-    (mask >> stage) % 2 == 1
+    (mask >> number(stage)) % 2 == 1
 }
 
-// The stage after another: from MEM a store goes to ST, any other kind to WB.
-fn next(store: bool, stage: u32) -> u32
-    requires { ⌜ stage < 7 ⌝ }
-    ensures { λ r. ⌜ (r ≡ nextNumber store stage) × (stage < r) × (r ≤ 7) ⌝ }
+// Nothing stands in post.
+fn kind_in(kinds: Kinds, stage: Stage) -> Kind
+    ensures { λ r. ⌜ kindNamed r ≡ kindIn kinds (stageNamed stage) ⌝ }
 {
-    if stage == MEM {
-        if store {
-            return ST;
-        }
-        return WB;
+    match stage {
+        Stage::Pre => kinds.pre,
+        Stage::IF => kinds.IF,
+        Stage::ID => kinds.ID,
+        Stage::EX => kinds.EX,
+        Stage::MEM => kinds.MEM,
+        Stage::ST => kinds.ST,
+        Stage::WB => kinds.WB,
+        Stage::Post => Kind::Plain,
     }
-    if stage == ST {
-        return POST;
-    }
-    stage + 1
 }
 
-// `going` says which instructions have count 0 and are ready, `full` which stages are filled, and
-// `store` whether MEM holds a store.
-fn moves(going: u32, full: u32, store: bool, stage: u32) -> bool
-    requires { ⌜ stage < 7 ⌝ }
-    ensures { λ r. ⌜ r ≡ movesAt (bits going) (bits full) store (stageAt stage) ⌝ }
+// `going` says which instructions have count 0 and are ready, `full` which stages are filled.
+fn moves(going: u32, full: u32, kinds: Kinds, stage: Stage) -> bool
+    requires { ⌜ same (stageNamed stage) post ≡ false ⌝ }
+    ensures { λ r. ⌜ r ≡ movesAt (bits going) (bits full) (isStore (kindIn kinds MEM)) (stageNamed stage) ⌝ }
 {
     if bit(going, stage) {
-        let to = next(store, stage);
-        return will_be_free(going, full, store, to);
+        let to = next(kind_in(kinds, stage), stage);
+        return will_be_free(going, full, kinds, to);
     }
     false
 }
 
-fn will_be_free(going: u32, full: u32, store: bool, stage: u32) -> bool
-    requires { ⌜ stage ≤ 7 ⌝ }
-    ensures { λ r. ⌜ r ≡ freeAt (bits going) (bits full) store (stageAt stage) ⌝ }
+fn will_be_free(going: u32, full: u32, kinds: Kinds, stage: Stage) -> bool
+    ensures { λ r. ⌜ r ≡ freeAt (bits going) (bits full) (isStore (kindIn kinds MEM)) (stageNamed stage) ⌝ }
 {
-    if stage == POST {
+    if same(stage, Stage::Post) {
         return true;
     }
     if bit(full, stage) {
-        return moves(going, full, store, stage);
+        return moves(going, full, kinds, stage);
     }
     true
 }
 
-pub fn leaving(going: u32, full: u32, store: bool) -> Bits
-    ensures { λ r. ⌜ r ≡ bitsOf (movesAt (bits going) (bits full) store) ⌝ }
+pub fn leaving(going: u32, full: u32, kinds: Kinds) -> Bits
+    ensures { λ r. ⌜ r ≡ bitsOf (movesAt (bits going) (bits full) (isStore (kindIn kinds MEM))) ⌝ }
 {
     Bits {
-        pre: moves(going, full, store, PRE),
-        IF: moves(going, full, store, IF),
-        ID: moves(going, full, store, ID),
-        EX: moves(going, full, store, EX),
-        MEM: moves(going, full, store, MEM),
-        ST: moves(going, full, store, ST),
-        WB: moves(going, full, store, WB),
+        pre: moves(going, full, kinds, Stage::Pre),
+        IF: moves(going, full, kinds, Stage::IF),
+        ID: moves(going, full, kinds, Stage::ID),
+        EX: moves(going, full, kinds, Stage::EX),
+        MEM: moves(going, full, kinds, Stage::MEM),
+        ST: moves(going, full, kinds, Stage::ST),
+        WB: moves(going, full, kinds, Stage::WB),
+    }
+}
+
+// What leaves a stage goes to this one.
+fn arrives(leaves: bool, kinds: Kinds, from: Stage, to: Stage) -> bool
+    ensures { λ r. ⌜ r ≡ (leaves and same (next (kindIn kinds (stageNamed from)) (stageNamed from)) (stageNamed to)) ⌝ }
+{
+    if leaves {
+        return same(next(kind_in(kinds, from), from), to);
+    }
+    false
+}
+
+// Into which stages an instruction comes; nothing comes into pre.
+pub fn arriving(moving: Bits, kinds: Kinds) -> Bits
+    ensures { λ r. ⌜ r ≡ bitsOf (arrivesIn (bitOf moving) (isStore (kindIn kinds MEM))) ⌝ }
+{
+    Bits {
+        pre: false,
+        IF: arrives(moving.pre, kinds, Stage::Pre, Stage::IF),
+        ID: arrives(moving.IF, kinds, Stage::IF, Stage::ID),
+        EX: arrives(moving.ID, kinds, Stage::ID, Stage::EX),
+        MEM: arrives(moving.EX, kinds, Stage::EX, Stage::MEM),
+        ST: arrives(moving.MEM, kinds, Stage::MEM, Stage::ST),
+        WB: arrives(moving.MEM, kinds, Stage::MEM, Stage::WB),
     }
 }

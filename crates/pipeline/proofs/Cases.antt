@@ -14,17 +14,17 @@ use Rattle.pipeline.specs.Step.{stepRefusal, onward, stepAnswer}
 use Rattle.pipeline.specs.Cases.{StepAnswered, ValueStepAnswered, HitStepAnswered, CountsJudged}
 
 pub step-answered : StepAnswered
-unfolding _and_ _or_ every none next further shortOf entry noOlder readsInID readsInEX missesData readyIn ready budget movesWithin moves cycle holds placeOf fetchedBelow occupantBelow stateOf younger orderly withHits chartOfD _then_ _unless_ fieldsFrom breaksRules hasUnknown notAbove kindOf flagOf instructionOf breaksAt unknownAt notAboveAt firsts traceOf lengthRefusal recordRefusal unknownRefusal hitRefusal bodyRefusal timedRefusal settledRefusal stepRefusal onward stepAnswer
+unfolding _and_ _or_ every none further shortOf entry noOlder readsInID readsInEX missesData readyIn ready budget movesWithin moves cycle holds placeOf fetchedBelow occupantBelow stateOf younger orderly withHits chartOfD _then_ _unless_ fieldsFrom breaksRules hasUnknown notAbove kindOf flagOf instructionOf breaksAt unknownAt notAboveAt firsts traceOf lengthRefusal recordRefusal unknownRefusal hitRefusal bodyRefusal timedRefusal settledRefusal stepRefusal onward stepAnswer
 step-answered = refl
 
 pub value-step-answered : ValueStepAnswered
-unfolding _and_ _or_ every none next further shortOf entry noOlder readsInID readsInEX missesData readyIn ready budget movesWithin moves cycle holds placeOf fetchedBelow occupantBelow stateOf younger orderly withHits valueLoaded chartOfValue _then_ _unless_ fieldsFrom breaksRules hasUnknown notAbove kindOf flagOf instructionOf breaksAt unknownAt notAboveAt firsts traceOf recordOf recordBytes fieldsOf bodyOf lengthRefusal recordRefusal unknownRefusal hitRefusal bodyRefusal timedRefusal settledRefusal stepRefusal onward stepAnswer
+unfolding _and_ _or_ every none further shortOf entry noOlder readsInID readsInEX missesData readyIn ready budget movesWithin moves cycle holds placeOf fetchedBelow occupantBelow stateOf younger orderly withHits valueLoaded chartOfValue _then_ _unless_ fieldsFrom breaksRules hasUnknown notAbove kindOf flagOf instructionOf breaksAt unknownAt notAboveAt firsts traceOf recordOf recordBytes fieldsOf bodyOf lengthRefusal recordRefusal unknownRefusal hitRefusal bodyRefusal timedRefusal settledRefusal stepRefusal onward stepAnswer
 value-step-answered = refl
 
 pub hit-step-answered : HitStepAnswered
-unfolding _and_ _or_ every none next further shortOf entry noOlder readsInID readsInEX missesData readyIn ready budget movesWithin moves cycle holds placeOf fetchedBelow occupantBelow stateOf younger orderly withHits storeAndLoad chartOfHits _then_ _unless_ fieldsFrom breaksRules hasUnknown notAbove kindOf flagOf instructionOf breaksAt unknownAt notAboveAt firsts traceOf recordOf recordBytes fieldsOf bodyOf lengthRefusal recordRefusal unknownRefusal hitRefusal bodyRefusal timedRefusal settledRefusal stepRefusal onward stepAnswer
+unfolding _and_ _or_ every none further shortOf entry noOlder readsInID readsInEX missesData readyIn ready budget movesWithin moves cycle holds placeOf fetchedBelow occupantBelow stateOf younger orderly withHits storeAndLoad chartOfHits _then_ _unless_ fieldsFrom breaksRules hasUnknown notAbove kindOf flagOf instructionOf breaksAt unknownAt notAboveAt firsts traceOf recordOf recordBytes fieldsOf bodyOf lengthRefusal recordRefusal unknownRefusal hitRefusal bodyRefusal timedRefusal settledRefusal stepRefusal onward stepAnswer
 hit-step-answered = refl
 
 pub counts-judged : CountsJudged
-unfolding _and_ _or_ every none next further shortOf entry noOlder readsInID readsInEX missesData readyIn ready budget movesWithin moves cycle holds placeOf fetchedBelow occupantBelow stateOf younger orderly withHits storeAndLoad chartOfHits _then_ _unless_ fieldsFrom breaksRules hasUnknown notAbove kindOf flagOf instructionOf breaksAt unknownAt notAboveAt firsts traceOf recordOf recordBytes fieldsOf bodyOf lengthRefusal recordRefusal unknownRefusal hitRefusal bodyRefusal timedRefusal settledRefusal stepRefusal onward stepAnswer
+unfolding _and_ _or_ every none further shortOf entry noOlder readsInID readsInEX missesData readyIn ready budget movesWithin moves cycle holds placeOf fetchedBelow occupantBelow stateOf younger orderly withHits storeAndLoad chartOfHits _then_ _unless_ fieldsFrom breaksRules hasUnknown notAbove kindOf flagOf instructionOf breaksAt unknownAt notAboveAt firsts traceOf recordOf recordBytes fieldsOf bodyOf lengthRefusal recordRefusal unknownRefusal hitRefusal bodyRefusal timedRefusal settledRefusal stepRefusal onward stepAnswer
 counts-judged = refl

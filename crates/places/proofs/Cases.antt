@@ -1,21 +1,17 @@
 -- In each of its seven cases the code gives the place that the definition's tests choose: stated over plain variables.
 use Prim.Native.Nat.{ℕ, _-_, _≤_, _<_}
-use mathlib.Core.Bool.{Bool, true, false, cond}
-use mathlib.Core.Path.{_≡_, refl}
+use mathlib.Core.Path.{_≡_}
 use borrow.Author.Tests.{lt-ltb, le-ltb}
 use Rattle.machine.specs.Instruction.{Instruction}
-use Rattle.machine.specs.Rules.{IF, EX, MEM, ST, WB, isStore, entry}
+use Rattle.machine.specs.Rules.{IF, EX, MEM, next, entry}
 use Rattle.machine.proofs.Stages.{stageNumber}
+use Rattle.machine.proofs.Doing.{nextIn, next-in}
 use Rattle.machine.proofs.Window.{Times, lastCount, placeAt}
 use Rattle.places.specs.Inner.{numbered}
 use Rattle.places.specs.declared.places.Place.{Place}
 
 abbrev at : ℕ → ℕ → Place
 at stage count = record { stage = stage; count = count }
-
-last-number : (store : Bool) → cond store 5 6 ≡ stageNumber (cond store ST WB)
-last-number true = refl
-last-number false = refl
 
 module _ (i : Instruction) (e : Times) (t : ℕ) where
   abbrev place : Place
@@ -48,15 +44,14 @@ module _ (i : Instruction) (e : Times) (t : ℕ) where
           module _ (ended : e .last ≤ t) where
             pub in-last
                 : t < e .post →
-                {store : Bool} {stage n r : ℕ} →
-                store ≡ isStore (i .kind) →
-                stage ≡ cond store 5 6 →
+                {stage n r : ℕ} →
+                stage ≡ stageNumber (next (i .kind) MEM) →
                 n ≡ lastCount i →
                 r ≡ n - (t - e .last) →
                 at stage r ≡ place
-            unfolding placeAt
-            in-last h s l p q =
-                rw (l, q, p, s, last-number (isStore (i .kind)), le-ltb _ _ fetched, le-ltb _ _ decoded, le-ltb _ _ executed, le-ltb _ _ accessed, le-ltb _ _ ended, lt-ltb _ _ h)
+            unfolding placeAt nextIn
+            in-last h l p q =
+                rw (l, next-in (i .kind) MEM, q, p, le-ltb _ _ fetched, le-ltb _ _ decoded, le-ltb _ _ executed, le-ltb _ _ accessed, le-ltb _ _ ended, lt-ltb _ _ h)
 
             pub in-post : e .post ≤ t → at 7 0 ≡ place
             unfolding placeAt

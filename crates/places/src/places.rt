@@ -1,24 +1,25 @@
 // Where an instruction stands after a number of cycles, from its times.
 ghost use mathlib.Core.Path.{_≡_};
+ghost use Rattle.machine.specs.Rules.{MEM, stageNumber, next};
 ghost use Rattle.machine.specs.Hits.{withHit};
 ghost use Rattle.machine.proofs.Window.{placeAt};
 ghost use Rattle.record.specs.Rules.{instructionOf};
 ghost use Rattle.schedule.specs.Inner.{timesOf};
 ghost use Rattle.places.specs.Inner.{numbered};
-use decode::choose;
 use decode::count_in_if;
 use decode::count_in_last;
 use decode::count_in_mem;
-use decode::is_store;
+use decode::kind;
 use decode::less;
+use following::next;
+use machine::Stage;
 use machine::stage::EX;
 use machine::stage::ID;
 use machine::stage::IF;
 use machine::stage::MEM;
 use machine::stage::POST;
 use machine::stage::PRE;
-use machine::stage::ST;
-use machine::stage::WB;
+use machine::stage::number;
 use record::Fields;
 use schedule::Times;
 
@@ -27,6 +28,13 @@ use schedule::Times;
 pub struct Place {
     pub stage: u32,
     pub count: u32,
+}
+
+// The number of the stage after MEM.
+fn last_stage(f: Fields) -> u32
+    ensures { λ r. ⌜ r ≡ stageNumber (next (instructionOf f .kind) MEM) ⌝ }
+{
+    number(next(kind(f), Stage::MEM))
 }
 
 pub fn place_at(f: Fields, e: Times, t: u32, hit_cycles: u32) -> Place
@@ -64,7 +72,7 @@ pub fn place_at(f: Fields, e: Times, t: u32, hit_cycles: u32) -> Place
     }
     if t < e.post {
         return Place {
-            stage: choose(is_store(f), ST, WB),
+            stage: last_stage(f),
             count: less(count_in_last(f, hit_cycles), t - e.last),
         };
     }

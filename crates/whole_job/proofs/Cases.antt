@@ -17,7 +17,7 @@ use Rattle.whole_job.specs.Answers.{jobRefusal, timedAlone, jobAnswer, j
 use Rattle.whole_job.specs.Cases.{JobsAnswered}
 
 pub jobs-answered : JobsAnswered
-unfolding _and_ _or_ every none next further shortOf entry noOlder readsInID readsInEX missesData readyIn ready budget movesWithin moves cycle allPre after allLeft bound leastFrom finish settle worst withHits _then_ _unless_ fieldsFrom breaksRules notAbove kindOf flagOf instructionOf breaksAt notAboveAt firsts traceOf lengthRefusal recordRefusal hitRefusal bodyRefusal timedRefusal firstRefusal bodyStart entryRefusal entriesRefusal tableRefusal tracesRefusal fileRefusal openRefusal openBody declinesAt fileHitRefusal timedFileRefusal bestWorstAnswer jobRefusal timedAlone jobAnswer jobTimes
+unfolding _and_ _or_ every none further shortOf entry noOlder readsInID readsInEX missesData readyIn ready budget movesWithin moves cycle allPre after allLeft bound leastFrom finish settle worst withHits _then_ _unless_ fieldsFrom breaksRules notAbove kindOf flagOf instructionOf breaksAt notAboveAt firsts traceOf lengthRefusal recordRefusal hitRefusal bodyRefusal timedRefusal firstRefusal bodyStart entryRefusal entriesRefusal tableRefusal tracesRefusal fileRefusal openRefusal openBody declinesAt fileHitRefusal timedFileRefusal bestWorstAnswer jobRefusal timedAlone jobAnswer jobTimes
 jobs-answered =
     record {
       longer = (refl, refl);

@@ -7,14 +7,14 @@ use Prim.Native.Nat.{ℕ}
 use Rattle.machine.specs.Test.{_and_}
 use Rattle.machine.specs.Hits.{withHits}
 use Rattle.machine.specs.declared.State.{State}
-use Rattle.machine.proofs.BySlots.{storeInMEM}
+use Rattle.machine.proofs.BySlots.{storeInMEM, leaves}
 use Rattle.machine.proofs.HitSlots.{goes-alike}
-use Rattle.machine.specs.Rules.{isStore}
+use Rattle.machine.specs.Rules.{MEM, isStore}
 use Rattle.machine.specs.Instruction.{Instruction, Trace}
 use Rattle.moving.specs.declared.moving.Bits.{Bits}
-use Rattle.moving.specs.Inner.{bitOf, bitsOf}
+use Rattle.moving.specs.Inner.{bitOf, bitsOf, kindIn}
 use Rattle.starting.specs.Inner.{starts, opensAfter}
-use Rattle.cycle.proofs.Starts.{leaving-is, standstill-is, none-set}
+use Rattle.cycle.proofs.Starts.{leaving-is, arriving-is, standstill-is, none-set}
 use Rattle.cycle.proofs.cycling.cycle.Statement.{statement}
 use Rattle.cycle.proofs.cycling.cycle.Tie as tie
 
@@ -42,8 +42,8 @@ returns c =
     c .all-stay .ensures
     ∙ standstill-is trace s (none-set (starts trace s) (and-failed-l _ _ (goes-post trace s)) (c3 .starts .ensures given h e ∙ ap bitsOf (sym (starts-alike hits given s))) idle)
 
-is-store-requires : tie.Need-is-store-requires
-is-store-requires c κs = tt
+kinds-read-requires : tie.Need-kinds-read-requires
+kinds-read-requires c κs = tt
 
 mask-requires : tie.Need-mask-requires
 mask-requires c κs = tt
@@ -57,6 +57,9 @@ mask-requires-2 c κs = tt
 leaving-requires : tie.Need-leaving-requires
 leaving-requires c κs = tt
 
+arriving-requires : tie.Need-arriving-requires
+arriving-requires c κs = tt
+
 slots-after-requires : tie.Need-slots-after-requires
 slots-after-requires c κs = search needs
 
@@ -64,17 +67,18 @@ returns-2 : tie.Need-returns-2
 unfolding storeInMEM
 returns-2 c =
     λ trace h e.
-    let c4 = c .before .before .before .before in
-    let c8 = c4 .before .before .before .before in
-    let a = c8 .before .args in
-    let store : c4 .before .is-store .result ≡ storeInMEM trace (a .s) = c4 .before .is-store .ensures ∙ ap (λ (i : Instruction). isStore (i .kind)) (h .MEM) in
-    c .slots-after .ensures trace h
-    (c .before .leaving .ensures
-    ∙ leaving-is trace (a .s)
-    (c4 .mask .ensures ∙ ap (λ (b : Bits). maskOf (bitOf b)) (c8 .starts .ensures trace h e))
-    (c .before .before .mask2 .ensures ∙ ap (λ (b : Bits). maskOf (bitOf b)) (c .before .before .before .full .ensures trace e))
-    store)
-    store
+    let c3 = c .before .before .before in
+    let c6 = c3 .before .before .before in
+    let c9 = c6 .before .before .before in
+    let s = c9 .before .args .s in
+    let store : isStore (kindIn (c6 .kinds-read .result) MEM) ≡ storeInMEM trace s = ap isStore (c6 .kinds-read .ensures MEM) ∙ ap (λ (i : Instruction). isStore (i .kind)) (h .MEM) in
+    let moving : c .before .before .leaving .result ≡ bitsOf (leaves trace s) =
+        c .before .before .leaving .ensures
+        ∙ leaving-is trace s
+        (c3 .before .before .mask .ensures ∙ ap (λ (b : Bits). maskOf (bitOf b)) (c9 .starts .ensures trace h e))
+        (c3 .mask2 .ensures ∙ ap (λ (b : Bits). maskOf (bitOf b)) (c3 .before .full .ensures trace e))
+        store in
+    c .slots-after .ensures trace h moving (c .before .arriving .ensures ∙ arriving-is trace s moving store)
 
 pub cycle-spec : {M : Type 1} → statement M
 cycle-spec =
@@ -84,10 +88,11 @@ cycle-spec =
     none-requires
     all-stay-requires
     returns
-    is-store-requires
+    kinds-read-requires
     mask-requires
     full-requires
     mask-requires-2
     leaving-requires
+    arriving-requires
     slots-after-requires
     returns-2)

@@ -1,36 +1,38 @@
 -- `leaving` meets its contract: a call of `moves` for each stage.
-use borrow.Author.Needs.{needs}
+use mathlib.Core.Path.{refl}
+use Rattle.machine.specs.Rules.{MEM, isStore}
 use Rattle.machine.proofs.Masks.{bits}
 use Rattle.machine.proofs.BySlots.{movesAt}
+use Rattle.moving.specs.Inner.{kindIn}
 use Rattle.moving.proofs.Seven.{bits-are}
 use Rattle.moving.proofs.moving.leaving.Statement.{statement}
 use Rattle.moving.proofs.moving.leaving.Tie as tie
 
 moves-requires : tie.Need-moves-requires
-moves-requires c κs = search needs
+moves-requires c κs = refl
 
 moves-requires-2 : tie.Need-moves-requires-2
-moves-requires-2 c κs = search needs
+moves-requires-2 c κs = refl
 
 moves-requires-3 : tie.Need-moves-requires-3
-moves-requires-3 c κs = search needs
+moves-requires-3 c κs = refl
 
 moves-requires-4 : tie.Need-moves-requires-4
-moves-requires-4 c κs = search needs
+moves-requires-4 c κs = refl
 
 moves-requires-5 : tie.Need-moves-requires-5
-moves-requires-5 c κs = search needs
+moves-requires-5 c κs = refl
 
 moves-requires-6 : tie.Need-moves-requires-6
-moves-requires-6 c κs = search needs
+moves-requires-6 c κs = refl
 
 moves-requires-7 : tie.Need-moves-requires-7
-moves-requires-7 c κs = search needs
+moves-requires-7 c κs = refl
 
 returns : tie.Need-returns
 returns c =
     let a = c .before .before .before .before .before .before .before .args in
-    bits-are (movesAt (bits (a .going)) (bits (a .full)) (a .store))
+    bits-are (movesAt (bits (a .going)) (bits (a .full)) (isStore (kindIn (a .kinds) MEM)))
     (c .before .before .before .before .before .before .moves .ensures)
     (c .before .before .before .before .before .moves2 .ensures)
     (c .before .before .before .before .moves3 .ensures)

@@ -39,11 +39,8 @@ less-requires-3 c κs = search needs
 returns-5 : tie.Need-returns-5
 returns-5 c = in-MEM (withHit _ (instructionOf _)) _ _ (c .before .before .before .before .before .before .before .before .before .before .before .if1 .left) (c .before .before .before .before .before .before .before .before .before .if2 .left) (c .before .before .before .before .before .before .before .if3 .left) (c .before .before .before .before .before .if4 .left) (c .before .before .before .if5 .taken) (c .before .before .count-in-mem .ensures) (c .less3 .ensures)
 
-is-store-requires : tie.Need-is-store-requires
-is-store-requires c κs = search needs
-
-choose-requires : tie.Need-choose-requires
-choose-requires c κs = search needs
+last-stage-requires : tie.Need-last-stage-requires
+last-stage-requires c κs = search needs
 
 count-in-last-requires : tie.Need-count-in-last-requires
 count-in-last-requires c κs = search needs
@@ -52,7 +49,7 @@ less-requires-4 : tie.Need-less-requires-4
 less-requires-4 c κs = search needs
 
 returns-6 : tie.Need-returns-6
-returns-6 c = in-last (withHit _ (instructionOf _)) _ _ (c .before .before .before .before .before .before .before .before .before .before .before .before .before .before .before .if1 .left) (c .before .before .before .before .before .before .before .before .before .before .before .before .before .if2 .left) (c .before .before .before .before .before .before .before .before .before .before .before .if3 .left) (c .before .before .before .before .before .before .before .before .before .if4 .left) (c .before .before .before .before .before .before .before .if5 .left) (c .before .before .before .before .before .if6 .taken) (c .before .before .before .before .is-store .ensures) (c .before .before .before .choose .ensures) (c .before .before .count-in-last .ensures) (c .less4 .ensures)
+returns-6 c = in-last (withHit _ (instructionOf _)) _ _ (c .before .before .before .before .before .before .before .before .before .before .before .before .before .before .if1 .left) (c .before .before .before .before .before .before .before .before .before .before .before .before .if2 .left) (c .before .before .before .before .before .before .before .before .before .before .if3 .left) (c .before .before .before .before .before .before .before .before .if4 .left) (c .before .before .before .before .before .before .if5 .left) (c .before .before .before .before .if6 .taken) (c .before .before .before .last-stage .ensures) (c .before .before .count-in-last .ensures) (c .less4 .ensures)
 
 returns-7 : tie.Need-returns-7
 returns-7 c = in-post (withHit _ (instructionOf _)) _ _ (c .before .before .before .before .before .before .before .before .before .before .if1 .left) (c .before .before .before .before .before .before .before .before .if2 .left) (c .before .before .before .before .before .before .if3 .left) (c .before .before .before .before .if4 .left) (c .before .before .if5 .left) (c .if6 .left)
@@ -71,8 +68,7 @@ place-at-spec =
     count-in-mem-requires
     less-requires-3
     returns-5
-    is-store-requires
-    choose-requires
+    last-stage-requires
     count-in-last-requires
     less-requires-4
     returns-6

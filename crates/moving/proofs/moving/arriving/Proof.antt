@@ -1,0 +1,59 @@
+-- `arriving` meets its contract: stage by stage, from what leaves the stage before.
+use mathlib.Core.Bool.{Bool, false}
+use mathlib.Core.Path.{_≡_, refl, sym, ap, _∙_}
+use Rattle.machine.specs.Test.{_and_}
+use Rattle.machine.specs.Rules.{Stage, pre, IF, ID, EX, MEM, ST, WB, isStore}
+use Rattle.machine.proofs.Connectives.{and-failed-l}
+use Rattle.machine.proofs.Stages.{inside}
+use Rattle.machine.proofs.BySlots.{stageBefore, takes, arrivesIn}
+use Rattle.machine.proofs.Flow.{takes-by-next}
+use Rattle.moving.specs.Inner.{bitOf, kindIn}
+use Rattle.moving.proofs.Seven.{bits-are}
+use Rattle.moving.proofs.moving.arriving.Statement.{statement}
+use Rattle.moving.proofs.moving.arriving.Tie as tie
+
+arrives-requires : tie.Need-arrives-requires
+arrives-requires c κs = tt
+
+arrives-requires-2 : tie.Need-arrives-requires-2
+arrives-requires-2 c κs = tt
+
+arrives-requires-3 : tie.Need-arrives-requires-3
+arrives-requires-3 c κs = tt
+
+arrives-requires-4 : tie.Need-arrives-requires-4
+arrives-requires-4 c κs = tt
+
+arrives-requires-5 : tie.Need-arrives-requires-5
+arrives-requires-5 c κs = tt
+
+arrives-requires-6 : tie.Need-arrives-requires-6
+arrives-requires-6 c κs = tt
+
+returns : tie.Need-returns
+unfolding stageBefore
+returns c =
+    let c2 = c .before .before in
+    let c4 = c2 .before .before in
+    let a = c4 .before .before .args in
+    let goes = takes-by-next (kindIn (a .kinds)) in
+    bits-are (arrivesIn (bitOf (a .moving)) (isStore (kindIn (a .kinds) MEM)))
+    (sym (and-failed-l _ _ refl))
+    (c4 .before .arrives .ensures ∙ ap (λ (b : Bool). a .moving .pre and b) (goes IF refl))
+    (c4 .arrives2 .ensures ∙ ap (λ (b : Bool). a .moving .IF and b) (goes ID refl))
+    (c2 .before .arrives3 .ensures ∙ ap (λ (b : Bool). a .moving .ID and b) (goes EX refl))
+    (c2 .arrives4 .ensures ∙ ap (λ (b : Bool). a .moving .EX and b) (goes MEM refl))
+    (c .before .arrives5 .ensures ∙ ap (λ (b : Bool). a .moving .MEM and b) (goes ST refl))
+    (c .arrives6 .ensures ∙ ap (λ (b : Bool). a .moving .MEM and b) (goes WB refl))
+
+pub arriving-spec : {M : Type 1} → statement M
+arriving-spec =
+    tie.close
+    (tie.spec
+    arrives-requires
+    arrives-requires-2
+    arrives-requires-3
+    arrives-requires-4
+    arrives-requires-5
+    arrives-requires-6
+    returns)
