@@ -8,6 +8,7 @@ ghost use Rattle.machine.specs.Rules.{Stage};
 ghost use Rattle.machine.specs.Hits.{withHits};
 ghost use Rattle.machine.specs.State.{maxInstructions};
 ghost use Rattle.machine.proofs.BySlots.{occupied, leaves, arrives, slotAfter, stepBySlots};
+ghost use Rattle.record.specs.Rules.{kindOf, instructionOf};
 ghost use Rattle.standing.specs.Inner.{Reads};
 ghost use Rattle.moving.specs.Inner.{bitsOf, kindIn};
 ghost use Rattle.cycle.specs.Inner.{kindRead, standstill};
@@ -15,15 +16,16 @@ use decode::count_in_if;
 use decode::count_in_mem;
 use decode::count_in_st;
 use decode::kind;
+use decode::kind_number;
 use decode::less;
 use machine::Slot;
 use machine::State;
 use moving::Bits;
-use moving::Kinds;
 use moving::arriving;
 use moving::leaving;
 use moving::mask;
 use moving::none;
+use record::Fields;
 use standing::Standing;
 use starting::starts;
 
@@ -42,19 +44,23 @@ fn full(n: u32, s: State) -> Bits
     }
 }
 
-// The kinds of the instructions whose fields are read.
-fn kinds_read(w: Standing) -> Kinds
+fn digit(f: Fields) -> u32
+    ensures { λ r. ⌜ (kindOf r ≡ instructionOf f .kind) × (r ≤ 7) ⌝ }
+{
+    kind_number(kind(f))
+}
+
+// The kinds of the instructions whose fields are read, an octal digit for each stage.
+fn kinds_read(w: Standing) -> u32
     ensures { λ r. ⌜ ((k : Stage) → kindIn r k ≡ kindRead w k) ⌝ }
 {
-    Kinds {
-        pre: kind(w.pre),
-        IF: kind(w.IF),
-        ID: kind(w.ID),
-        EX: kind(w.EX),
-        MEM: kind(w.MEM),
-        ST: kind(w.ST),
-        WB: kind(w.WB),
-    }
+    digit(w.pre)
+        + 8 * digit(w.IF)
+        + 64 * digit(w.ID)
+        + 512 * digit(w.EX)
+        + 4096 * digit(w.MEM)
+        + 32768 * digit(w.ST)
+        + 262144 * digit(w.WB)
 }
 
 // A slot after the cycle: what comes in, else what stays, its count less 1, else nothing.

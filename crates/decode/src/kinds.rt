@@ -1,5 +1,6 @@
 // Kinds and flags by name, and what the rules ask of them.
 ghost use mathlib.Core.Path.{_≡_};
+ghost use Prim.Native.Nat.{_≤_};
 ghost use Rattle.machine.specs.Named.{kindNamed};
 ghost use Rattle.machine.specs.Rules.{
   isLoad,
@@ -11,11 +12,13 @@ ghost use Rattle.machine.specs.Rules.{
   readsInID,
   missesData,
 };
-ghost use Rattle.record.specs.Rules.{instructionOf};
+ghost use Rattle.record.specs.Rules.{kindOf, instructionOf};
 use machine::Kind;
 use record::Fields;
 
-// The numbers of the kinds; 0 is plain.
+// The numbers of the kinds.
+const PLAIN: u32 = 0;
+
 const LOAD: u32 = 1;
 
 const STORE: u32 = 2;
@@ -27,17 +30,33 @@ pub const HIT: u32 = 0;
 
 pub const MISS: u32 = 1;
 
-// The kind by its name; a number that the rules refuse reads as plain.
-pub fn kind(f: Fields) -> Kind
-    ensures { λ r. ⌜ kindNamed r ≡ instructionOf f .kind ⌝ }
+pub fn kind_number(kind: Kind) -> u32
+    ensures { λ r. ⌜ (kindOf r ≡ kindNamed kind) × (r ≤ 7) ⌝ }
 {
-    let number = f.kind;
+    match kind {
+        Kind::Plain => PLAIN,
+        Kind::Load => LOAD,
+        Kind::Store => STORE,
+        Kind::Branch => BRANCH,
+    }
+}
+
+// A number that the rules refuse reads as plain.
+pub fn kind_of(number: u32) -> Kind
+    ensures { λ r. ⌜ kindNamed r ≡ kindOf number ⌝ }
+{
     match number {
         LOAD => Kind::Load,
         STORE => Kind::Store,
         BRANCH => Kind::Branch,
         _ => Kind::Plain,
     }
+}
+
+pub fn kind(f: Fields) -> Kind
+    ensures { λ r. ⌜ kindNamed r ≡ instructionOf f .kind ⌝ }
+{
+    kind_of(f.kind)
 }
 
 pub fn is_load(f: Fields) -> bool

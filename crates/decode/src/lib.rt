@@ -23,6 +23,8 @@ pub use kinds::holds_fetches;
 pub use kinds::is_load;
 pub use kinds::is_store;
 pub use kinds::kind;
+pub use kinds::kind_number;
+pub use kinds::kind_of;
 pub use kinds::misses_data;
 pub use kinds::reads_in_id;
 pub use waits::pending;

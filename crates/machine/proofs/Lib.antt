@@ -18,6 +18,7 @@ pub mod Masks
 pub mod Numbers
 pub mod Schedule
 pub mod Levels
+pub mod Way
 pub mod Standing
 pub mod Hits
 pub mod HitSlots

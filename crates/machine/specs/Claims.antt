@@ -1,15 +1,15 @@
 -- What is shown of the rules, as named types. `proofs/` has a term of each. The sentences are document 01's and, where it says so, the order's
 -- (docs/CLAIMS.md has its three demands) or document 02's.
 use Prim.Native.Nat.{ℕ, _+_, _≤_, _<_}
-use mathlib.Core.Bool.{Bool, true, false, not}
-use mathlib.Core.List.{[], _∷_, map}
+use mathlib.Core.Bool.{Bool, true, false, not, cond}
+use mathlib.Core.List.{List, [], _∷_, _++_, map}
 use mathlib.Core.Logic.{_↔_}
 use mathlib.Core.Path.{_≡_}
 use lib.Dec.{T, eqb}
 use lib.ListN.{length}
 use Rattle.machine.specs.Test.{_and_, _or_, every}
-use Rattle.machine.specs.Instruction.{hit, miss, Trace, instruction}
-use Rattle.machine.specs.Rules.{Stage, EX, MEM, post, next, same, Places, further, entry, accessReady, valueReady, ready, moves, willBeFree, cycle, after, allLeft}
+use Rattle.machine.specs.Instruction.{Kind, hit, miss, Trace, instruction}
+use Rattle.machine.specs.Rules.{Stage, pre, IF, ID, EX, MEM, ST, WB, post, next, same, isStore, Places, further, entry, accessReady, valueReady, ready, moves, willBeFree, cycle, after, allLeft}
 use Rattle.machine.specs.Time.{bound, finish, Settling, Delayed, Known, settle, best, worst}
 use Rattle.machine.specs.Hits.{withHits, HitsTake}
 use Rattle.machine.specs.Before.{entryBefore, cycleBefore, afterBefore, finishBefore}
@@ -44,6 +44,15 @@ ValueChartHolds = rows (valueLoaded 2) 10 ≡ chartOfValue
 
 abbrev pub HitChartHolds : Type 0
 HitChartHolds = rows (withHits 2 storeAndLoad) 10 ≡ chartOfHits
+
+-- "Stages run pre, IF, ID, EX, MEM, then ST for a store or WB for any other kind, then post.": the way of a kind
+abbrev pub way : Kind → List Stage
+way kind = pre ∷ IF ∷ ID ∷ EX ∷ MEM ∷ cond (isStore kind) ST WB ∷ post ∷ []
+
+-- Document 02, F-5: "For each stage that a kind passes before post it is shown to be document 01's": where a stage comes directly before another on a
+-- kind's way, the other is its next.
+abbrev pub NextOnTheWay : Type 0
+NextOnTheWay = (kind : Kind) (earlier later : List Stage) (s t : Stage) → way kind ≡ earlier ++ s ∷ t ∷ later → next kind s ≡ t
 
 -- `moves`, a test of instructions, and `willBeFree`, a test of stages, satisfy document 01's two sentences as equations: each is given by the other,
 -- and no budget is named.

@@ -5,6 +5,7 @@ use lib.Dec.{ltb, eqb}
 use lib.ListN.{length}
 use Rattle.machine.specs.Test.{_and_, _or_, every, none}
 use Rattle.machine.specs.Instruction.{Kind, plain, load, store, branch, Flag, hit, miss, unknown, Instruction, Trace, instruction}
+
 -- "Stages run pre, IF, ID, EX, MEM, then ST for a store or WB for any other kind, then post."
 pub data Stage : Type 0 where
   pre IF ID EX MEM ST WB post : Stage

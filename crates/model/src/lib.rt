@@ -2,6 +2,7 @@
 // literally, for programs that compare the engine with it. It shares no code with the engine.
 mod body;
 mod job;
+mod next_stage;
 mod older;
 mod places;
 mod rules;

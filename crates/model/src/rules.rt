@@ -1,15 +1,16 @@
 // One cycle of the core, rule by rule. "Every test is made on the state before the cycle": each of
 // two passes goes over the instructions from the oldest on, and carries what the rules ask of the
 // older ones. The first pass says which stages will be free, the second moves.
+use super::next_stage::next;
 use super::older::Older;
 use super::older::none;
 use super::older::one_more;
 use super::older::ready;
 use super::places::EX;
+use super::places::ID;
 use super::places::IF;
 use super::places::MEM;
 use super::places::POST;
-use super::places::PRE;
 use super::places::Place;
 use super::places::ST;
 use super::places::WB;
@@ -17,6 +18,7 @@ use super::places::place_at;
 use super::places::put;
 use super::sets::has;
 use super::sets::with_if;
+use super::trace::BRANCH;
 use super::trace::Instruction;
 use super::trace::LOAD;
 use super::trace::MISS;
@@ -26,29 +28,22 @@ use super::trace::instruction_at;
 use super::trace::size;
 ghost use Prim.Native.Nat.{_≤_};
 
-// "Stages run pre, IF, ID, EX, MEM, then ST for a store or WB for any other kind, then post."
-fn next(kind: u8, stage: u8) -> u8 {
-    if stage < MEM {
-        return stage + 1;
-    }
-    if stage > MEM {
-        return POST;
-    }
-    if kind == STORE { ST } else { WB }
-}
-
-// What stands in the stages: those in which a store stands, and any other kind; those with an
-// instruction whose count is above 0 or that is not ready.
+// What stands in the stages: of each kind those in which one stands; and those with an instruction
+// whose count is above 0 or that is not ready.
 struct Standing {
+    plains: u32,
+    loads: u32,
     stores: u32,
-    others: u32,
+    branches: u32,
     waiting: u32,
 }
 
 fn nothing() -> Standing {
     Standing {
+        plains: 0,
+        loads: 0,
         stores: 0,
-        others: 0,
+        branches: 0,
         waiting: 0,
     }
 }
@@ -57,8 +52,10 @@ fn nothing() -> Standing {
 fn seen(s: Standing, kind: u8, at: Place, is_ready: bool) -> Standing {
     let waits = at.count > 0 || !is_ready;
     Standing {
+        plains: with_if(s.plains, at.stage, kind == PLAIN),
+        loads: with_if(s.loads, at.stage, kind == LOAD),
         stores: with_if(s.stores, at.stage, kind == STORE),
-        others: with_if(s.others, at.stage, kind != STORE),
+        branches: with_if(s.branches, at.stage, kind == BRANCH),
         waiting: with_if(s.waiting, at.stage, waits),
     }
 }
@@ -80,29 +77,38 @@ fn all_standing<'a>(body: &'a [u8], stages: &'a [u8], counts: &'a [u32]) -> Stan
     s
 }
 
+// Whether none of this kind, which stands in the stages of a set, is in the stage, or else its next
+// stage will be free.
+fn can_go(standing: u32, kind: u8, stage: u8, free: u32) -> bool {
+    !has(standing, stage) || has(free, next(kind, stage))
+}
+
 // "A stage will be free when it is empty or its occupant moves in this cycle; the occupant moves
 // only if its own next stage will be free", which `free` says. Were there several in a stage, each
 // would have to move: that there is at most one is a theorem about the rules, and not used here.
 fn will_be_free(s: Standing, stage: u8, free: u32) -> bool {
-    if has(s.waiting, stage) {
-        return false;
-    }
-    if has(s.stores, stage) && !has(free, next(STORE, stage)) {
-        return false;
-    }
-    !has(s.others, stage) || has(free, next(PLAIN, stage))
+    let plain = can_go(s.plains, PLAIN, stage, free);
+    let load = can_go(s.loads, LOAD, stage, free);
+    let store = can_go(s.stores, STORE, stage, free);
+    let branch = can_go(s.branches, BRANCH, stage, free);
+    !has(s.waiting, stage) & plain & load & store & branch
 }
 
-// The stages that will be free; "post is always free". A next stage is a later one, so stages
-// are decided from the last to the first.
+// The same stages, with this one if it will be free.
+fn with_if_free(s: Standing, stage: u8, free: u32) -> u32 {
+    with_if(free, stage, will_be_free(s, stage, free))
+}
+
+// The stages that will be free; "post is always free". In the figure's order each stage comes after
+// those that can follow it, so that these are decided before it.
 fn all_free(s: Standing) -> u32 {
     let mut free = with_if(0, POST, true);
-    let mut stage = WB;
-    while stage > PRE {
-        free = with_if(free, stage, will_be_free(s, stage, free));
-        stage -= 1;
-    }
-    free
+    free = with_if_free(s, ST, free);
+    free = with_if_free(s, WB, free);
+    free = with_if_free(s, MEM, free);
+    free = with_if_free(s, EX, free);
+    free = with_if_free(s, ID, free);
+    with_if_free(s, IF, free)
 }
 
 fn by_flag(flag: u8, on_miss: u32, on_hit: u32) -> u32 {

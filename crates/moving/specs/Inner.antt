@@ -1,10 +1,10 @@
 -- One bit, and one kind, for each stage that an instruction can leave.
+use Prim.Native.Nat.{ℕ, _^_, _/_, _%_}
 use mathlib.Core.Bool.{Bool, false}
-use Rattle.machine.specs.Instruction.{Kind, plain}
-use Rattle.machine.specs.Named.{kindNamed}
-use Rattle.machine.specs.Rules.{Stage, pre, IF, ID, EX, MEM, ST, WB, post}
+use Rattle.machine.specs.Instruction.{Kind}
+use Rattle.machine.specs.Rules.{Stage, pre, IF, ID, EX, MEM, ST, WB, post, stageNumber}
+use Rattle.record.specs.Rules.{kindOf}
 use Rattle.moving.specs.declared.moving.Bits.{Bits}
-use Rattle.moving.specs.declared.moving.Kinds.{Kinds}
 
 -- each bit given by a test of its stage
 abbrev pub bitsOf : (Stage → Bool) → Bits
@@ -20,13 +20,6 @@ bitOf b ST = b .ST
 bitOf b WB = b .WB
 bitOf b post = false
 
--- nothing stands in post
-abbrev pub kindIn : Kinds → Stage → Kind
-kindIn kinds pre = kindNamed (kinds .pre)
-kindIn kinds IF = kindNamed (kinds .IF)
-kindIn kinds ID = kindNamed (kinds .ID)
-kindIn kinds EX = kindNamed (kinds .EX)
-kindIn kinds MEM = kindNamed (kinds .MEM)
-kindIn kinds ST = kindNamed (kinds .ST)
-kindIn kinds WB = kindNamed (kinds .WB)
-kindIn kinds post = plain
+-- the kind in a stage, of the kinds as one number: an octal digit for each stage, pre's the lowest, which is the kind's number in a record
+abbrev pub kindIn : ℕ → Stage → Kind
+kindIn kinds k = kindOf (kinds / 8 ^ stageNumber k % 8)

@@ -3,7 +3,6 @@
 pub mod moving;
 
 pub use moving::Bits;
-pub use moving::Kinds;
 pub use moving::arriving;
 pub use moving::leaving;
 pub use moving::mask;

@@ -1,4 +1,6 @@
-// Who moves: "moves" and "will be free" over two masks, a bit for each stage from pre 0 to WB 6.
+// Who moves, and where to: "moves" and "will be free" over two masks, a bit for each stage from pre 0 to
+// WB 6, and the kinds that stand there as one number, an octal digit for each. In their place structs
+// would be copied at each call.
 ghost use mathlib.Core.Path.{_≡_};
 ghost use mathlib.Core.Bool.{false, not, _||_};
 ghost use Prim.Native.Nat.{_≤_};
@@ -9,6 +11,7 @@ ghost use Rattle.machine.proofs.BySlots.{movesAt, freeAt, arrivesIn};
 ghost use Rattle.machine.proofs.Flow.{bit};
 ghost use Rattle.machine.proofs.Masks.{bits, maskOf};
 ghost use Rattle.moving.specs.Inner.{bitsOf, bitOf, kindIn};
+use decode::kind_of;
 use following::next;
 use machine::Kind;
 use machine::Stage;
@@ -24,17 +27,6 @@ pub struct Bits {
     pub MEM: bool,
     pub ST: bool,
     pub WB: bool,
-}
-
-// The kind of the instruction in each of these stages; of an empty one it may be any.
-pub struct Kinds {
-    pub pre: Kind,
-    pub IF: Kind,
-    pub ID: Kind,
-    pub EX: Kind,
-    pub MEM: Kind,
-    pub ST: Kind,
-    pub WB: Kind,
 }
 
 fn digit(b: bool) -> u32
@@ -71,24 +63,23 @@ fn bit(mask: u32, stage: Stage) -> bool
     (mask >> number(stage)) % 2 == 1
 }
 
-// Nothing stands in post.
-fn kind_in(kinds: Kinds, stage: Stage) -> Kind
+fn kind_in(kinds: u32, stage: Stage) -> Kind
     ensures { λ r. ⌜ kindNamed r ≡ kindIn kinds (stageNamed stage) ⌝ }
 {
     match stage {
-        Stage::Pre => kinds.pre,
-        Stage::IF => kinds.IF,
-        Stage::ID => kinds.ID,
-        Stage::EX => kinds.EX,
-        Stage::MEM => kinds.MEM,
-        Stage::ST => kinds.ST,
-        Stage::WB => kinds.WB,
-        Stage::Post => Kind::Plain,
+        Stage::Pre => kind_of(kinds % 8),
+        Stage::IF => kind_of(kinds / 8 % 8),
+        Stage::ID => kind_of(kinds / 64 % 8),
+        Stage::EX => kind_of(kinds / 512 % 8),
+        Stage::MEM => kind_of(kinds / 4096 % 8),
+        Stage::ST => kind_of(kinds / 32768 % 8),
+        Stage::WB => kind_of(kinds / 262144 % 8),
+        Stage::Post => kind_of(kinds / 2097152 % 8),
     }
 }
 
 // `going` says which instructions have count 0 and are ready, `full` which stages are filled.
-fn moves(going: u32, full: u32, kinds: Kinds, stage: Stage) -> bool
+fn moves(going: u32, full: u32, kinds: u32, stage: Stage) -> bool
     requires { ⌜ same (stageNamed stage) post ≡ false ⌝ }
     ensures { λ r. ⌜ r ≡ movesAt (bits going) (bits full) (isStore (kindIn kinds MEM)) (stageNamed stage) ⌝ }
 {
@@ -99,7 +90,7 @@ fn moves(going: u32, full: u32, kinds: Kinds, stage: Stage) -> bool
     false
 }
 
-fn will_be_free(going: u32, full: u32, kinds: Kinds, stage: Stage) -> bool
+fn will_be_free(going: u32, full: u32, kinds: u32, stage: Stage) -> bool
     ensures { λ r. ⌜ r ≡ freeAt (bits going) (bits full) (isStore (kindIn kinds MEM)) (stageNamed stage) ⌝ }
 {
     if same(stage, Stage::Post) {
@@ -111,7 +102,7 @@ fn will_be_free(going: u32, full: u32, kinds: Kinds, stage: Stage) -> bool
     true
 }
 
-pub fn leaving(going: u32, full: u32, kinds: Kinds) -> Bits
+pub fn leaving(going: u32, full: u32, kinds: u32) -> Bits
     ensures { λ r. ⌜ r ≡ bitsOf (movesAt (bits going) (bits full) (isStore (kindIn kinds MEM))) ⌝ }
 {
     Bits {
@@ -126,7 +117,7 @@ pub fn leaving(going: u32, full: u32, kinds: Kinds) -> Bits
 }
 
 // What leaves a stage goes to this one.
-fn arrives(leaves: bool, kinds: Kinds, from: Stage, to: Stage) -> bool
+fn arrives(leaves: bool, kinds: u32, from: Stage, to: Stage) -> bool
     ensures { λ r. ⌜ r ≡ (leaves and same (next (kindIn kinds (stageNamed from)) (stageNamed from)) (stageNamed to)) ⌝ }
 {
     if leaves {
@@ -136,7 +127,7 @@ fn arrives(leaves: bool, kinds: Kinds, from: Stage, to: Stage) -> bool
 }
 
 // Into which stages an instruction comes; nothing comes into pre.
-pub fn arriving(moving: Bits, kinds: Kinds) -> Bits
+pub fn arriving(moving: Bits, kinds: u32) -> Bits
     ensures { λ r. ⌜ r ≡ bitsOf (arrivesIn (bitOf moving) (isStore (kindIn kinds MEM))) ⌝ }
 {
     Bits {

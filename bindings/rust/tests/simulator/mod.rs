@@ -6,6 +6,7 @@ pub mod by_value;
 pub mod dice;
 pub mod job;
 
+pub const PLAIN: u8 = 0;
 pub const LOAD: u8 = 1;
 pub const STORE: u8 = 2;
 pub const BRANCH: u8 = 3;
@@ -145,15 +146,49 @@ fn short_of(p: Place, stage: Stage) -> bool {
     p.stage < stage || p.stage == stage && p.count > 0
 }
 
+/// The following stage, in the order of the lines of stage' in Figure 5. "Stages run pre, IF, ID, EX, MEM, then ST for a store or WB for
+/// any other kind, then post." The figure's nop is no kind of document 01.
 fn next(i: &Instruction, stage: Stage) -> Stage {
-    match stage {
-        Pre => If,
-        If => Id,
-        Id => Ex,
-        Ex => Mem,
-        Mem if i.kind == STORE => St,
-        Mem => Wb,
-        _ => Post,
+    match (stage, i.kind) {
+        // post after ST, where only a store ever stands
+        (St, PLAIN) => Post,
+        (St, LOAD) => Post,
+        (St, STORE) => Post,
+        (St, BRANCH) => Post,
+        // post after WB, where a store never stands
+        (Wb, PLAIN) => Post,
+        (Wb, LOAD) => Post,
+        (Wb, STORE) => Post,
+        (Wb, BRANCH) => Post,
+        // WB after MEM for what is no store
+        (Mem, PLAIN) => Wb,
+        (Mem, LOAD) => Wb,
+        (Mem, BRANCH) => Wb,
+        // ST after MEM for a store
+        (Mem, STORE) => St,
+        // MEM after EX
+        (Ex, PLAIN) => Mem,
+        (Ex, LOAD) => Mem,
+        (Ex, STORE) => Mem,
+        (Ex, BRANCH) => Mem,
+        // EX after ID
+        (Id, PLAIN) => Ex,
+        (Id, LOAD) => Ex,
+        (Id, STORE) => Ex,
+        (Id, BRANCH) => Ex,
+        // ID after IF
+        (If, PLAIN) => Id,
+        (If, LOAD) => Id,
+        (If, STORE) => Id,
+        (If, BRANCH) => Id,
+        // IF after pre
+        (Pre, PLAIN) => If,
+        (Pre, LOAD) => If,
+        (Pre, STORE) => If,
+        (Pre, BRANCH) => If,
+        // the figure has no line for post: "an instruction in post stays there"
+        (Post, _) => Post,
+        (_, kind) => unreachable!("{kind} is no kind, and no accepted trace has it"),
     }
 }
 

@@ -73,11 +73,11 @@ returns-2 c =
     let s = c9 .before .args .s in
     let store : isStore (kindIn (c6 .kinds-read .result) MEM) ≡ storeInMEM trace s = ap isStore (c6 .kinds-read .ensures MEM) ∙ ap (λ (i : Instruction). isStore (i .kind)) (h .MEM) in
     let moving : c .before .before .leaving .result ≡ bitsOf (leaves trace s) =
-        c .before .before .leaving .ensures
-        ∙ leaving-is trace s
-        (c3 .before .before .mask .ensures ∙ ap (λ (b : Bits). maskOf (bitOf b)) (c9 .starts .ensures trace h e))
-        (c3 .mask2 .ensures ∙ ap (λ (b : Bits). maskOf (bitOf b)) (c3 .before .full .ensures trace e))
-        store in
+    c .before .before .leaving .ensures
+    ∙ leaving-is trace s
+    (c3 .before .before .mask .ensures ∙ ap (λ (b : Bits). maskOf (bitOf b)) (c9 .starts .ensures trace h e))
+    (c3 .mask2 .ensures ∙ ap (λ (b : Bits). maskOf (bitOf b)) (c3 .before .full .ensures trace e))
+    store in
     c .slots-after .ensures trace h moving (c .before .arriving .ensures ∙ arriving-is trace s moving store)
 
 pub cycle-spec : {M : Type 1} → statement M

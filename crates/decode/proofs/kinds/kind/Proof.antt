@@ -1,24 +1,14 @@
--- `kind` meets its contract: a kind is recognised by its number, and a number that names none reads as plain.
-use borrow.Author.Tests.{ne-eqb}
-use Rattle.record.specs.Rules.{kindOf, instructionOf}
+-- `kind` meets its contract: the kind of the record's number.
+use Rattle.record.specs.Rules.{instructionOf}
 use Rattle.decode.proofs.kinds.kind.Statement.{statement}
 use Rattle.decode.proofs.kinds.kind.Tie as tie
 
+kind-of-requires : tie.Need-kind-of-requires
+kind-of-requires c κs = tt
+
 returns : tie.Need-returns
-unfolding instructionOf kindOf
-returns c = rw (c .match .keys1)
-
-returns-2 : tie.Need-returns-2
-unfolding instructionOf kindOf
-returns-2 c = rw (c .match .keys2)
-
-returns-3 : tie.Need-returns-3
-unfolding instructionOf kindOf
-returns-3 c = rw (c .match .keys3)
-
-returns-4 : tie.Need-returns-4
-unfolding instructionOf kindOf
-returns-4 c = rw (ne-eqb _ _ (c .match .rest .0 .0 .1), ne-eqb _ _ (c .match .rest .0 .1), ne-eqb _ _ (c .match .rest .1))
+unfolding instructionOf
+returns c = c .kind-of .ensures
 
 pub kind-spec : {M : Type 1} → statement M
-kind-spec = tie.close (tie.spec returns returns-2 returns-3 returns-4)
+kind-spec = tie.close (tie.spec kind-of-requires returns)
