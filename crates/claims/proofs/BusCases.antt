@@ -6,7 +6,7 @@ use mathlib.Core.List.{[], _∷_}
 use lib.ListN.{length}
 use Rattle.machine.specs.Test.{_and_, _or_, every, none}
 use Rattle.machine.specs.Instruction.{miss, Instruction, Trace, instruction}
-use Rattle.machine.specs.Rules.{next, further as furtherOn, shortOf, entry, noOlder, readsInID, readsInEX, missesData, readyIn, ready, budget, movesWithin, moves, cycle, allPre, after, allLeft}
+use Rattle.machine.specs.Rules.{further as furtherOn, shortOf, entry, noOlder, readsInID, readsInEX, missesData, readyIn, ready, budget, movesWithin, moves, cycle, allPre, after, allLeft}
 use Rattle.machine.specs.Time.{bound, leastFrom, finish, unknown-misses, withWaits, settleFlag, settleInstruction, settle, worst}
 use Rattle.machine.specs.Hits.{withHits}
 use Rattle.machine.specs.Bus.{countsFetch, countsData, accessesOf, accesses, busTime, fetch-in-IF, load-in-MEM, store-in-ST, store-in-MEM}

@@ -1,7 +1,7 @@
 -- The budget of "moves" and "will be free" never decides: a stage's budget is two more than the next one's, so that each call leaves to the one it
 -- makes what that needs. And from post backwards the two sentences leave no choice, so any tests that keep them are these.
 use Prim.Native.Nat.{ℕ, zero, suc, _+_, _≤_, _<_}
-use mathlib.Core.Bool.{Bool, true, false, not, cond}
+use mathlib.Core.Bool.{Bool, true, false, not}
 use mathlib.Core.Path.{_≡_, refl, sym, ap, _∙_}
 use native.Mathlib.Omega.{arith}
 use lib.Dec.{eqb}

@@ -1,7 +1,7 @@
 -- A to L, D's chart and what F-3 and F-4 amend hold, by computation.
 use mathlib.Core.Path.{refl}
 use Rattle.machine.specs.Test.{_and_, _or_, every, none}
-use Rattle.machine.specs.Rules.{next, further as furtherOn, shortOf, entry, noOlder, readsInID, readsInEX, missesData, readyIn, ready, budget, movesWithin, moves, cycle, allPre, after, allLeft}
+use Rattle.machine.specs.Rules.{further as furtherOn, shortOf, entry, noOlder, readsInID, readsInEX, missesData, readyIn, ready, budget, movesWithin, moves, cycle, allPre, after, allLeft}
 use Rattle.machine.specs.Time.{bound, leastFrom, finish, settle, best, worst}
 use Rattle.machine.specs.Hits.{withHits}
 use Rattle.machine.specs.State.{fetchedBelow, occupantBelow, stateOf}

@@ -1,7 +1,7 @@
 -- The cycle by slots, for code that numbers the stages, pre 0 to post 7, and keeps one bit for each in a mask.
 use Prim.Native.Nat.{ℕ, zero, suc, _+_, _*_, _^_, _/_, _%_, _≤_, _<_}
 use native.Mathlib.Omega.{arith}
-use mathlib.Core.Bool.{Bool, true, false, not, cond}
+use mathlib.Core.Bool.{Bool, true, false, not}
 use mathlib.Core.Path.{_≡_, refl, sym, ap, ap₂, _∙_}
 use lib.Dec.{eqb, ltb}
 use Rattle.machine.specs.Test.{_and_, _or_}

@@ -1,7 +1,7 @@
 -- Step takes D, and F-3's and F-4's examples, from each row of its chart to the next, and judges counts by h: by computation.
 use mathlib.Core.Path.{refl}
 use Rattle.machine.specs.Test.{_and_, _or_, every, none}
-use Rattle.machine.specs.Rules.{next, further, shortOf, entry, noOlder, readsInID, readsInEX, missesData, readyIn, ready, budget, movesWithin, moves, cycle}
+use Rattle.machine.specs.Rules.{further, shortOf, entry, noOlder, readsInID, readsInEX, missesData, readyIn, ready, budget, movesWithin, moves, cycle}
 use Rattle.machine.specs.State.{holds, placeOf, fetchedBelow, occupantBelow, stateOf, younger, orderly}
 use Rattle.machine.specs.Cases.{chartOfD, valueLoaded, chartOfValue, storeAndLoad, chartOfHits}
 use Rattle.machine.specs.Hits.{withHits}

@@ -1,7 +1,7 @@
 -- The worked job, by computation.
 use mathlib.Core.Path.{refl}
 use Rattle.machine.specs.Test.{_and_, _or_, every, none}
-use Rattle.machine.specs.Rules.{next, further, shortOf, entry, noOlder, readsInID, readsInEX, missesData, readyIn, ready, budget, movesWithin, moves, cycle, allPre, after, allLeft}
+use Rattle.machine.specs.Rules.{further, shortOf, entry, noOlder, readsInID, readsInEX, missesData, readyIn, ready, budget, movesWithin, moves, cycle, allPre, after, allLeft}
 use Rattle.machine.specs.Time.{bound, leastFrom, finish, settle, worst}
 use Rattle.machine.specs.Hits.{withHits}
 use Rattle.record.specs.Refusal.{_then_, _unless_}

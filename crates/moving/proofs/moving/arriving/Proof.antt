@@ -1,11 +1,10 @@
 -- `arriving` meets its contract: stage by stage, from what leaves the stage before.
-use mathlib.Core.Bool.{Bool, false}
-use mathlib.Core.Path.{_≡_, refl, sym, ap, _∙_}
+use mathlib.Core.Bool.{Bool}
+use mathlib.Core.Path.{refl, sym, ap, _∙_}
 use Rattle.machine.specs.Test.{_and_}
-use Rattle.machine.specs.Rules.{Stage, pre, IF, ID, EX, MEM, ST, WB, isStore}
+use Rattle.machine.specs.Rules.{IF, ID, EX, MEM, ST, WB, isStore}
 use Rattle.machine.proofs.Connectives.{and-failed-l}
-use Rattle.machine.proofs.Stages.{inside}
-use Rattle.machine.proofs.BySlots.{stageBefore, takes, arrivesIn}
+use Rattle.machine.proofs.BySlots.{stageBefore, arrivesIn}
 use Rattle.machine.proofs.Flow.{takes-by-next}
 use Rattle.moving.specs.Inner.{bitOf, kindIn}
 use Rattle.moving.proofs.Seven.{bits-are}
