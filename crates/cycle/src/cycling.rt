@@ -8,7 +8,6 @@ ghost use Rattle.machine.specs.Rules.{Stage};
 ghost use Rattle.machine.specs.Hits.{withHits};
 ghost use Rattle.machine.specs.State.{maxInstructions};
 ghost use Rattle.machine.proofs.BySlots.{occupied, leaves, arrives, slotAfter, stepBySlots};
-ghost use Rattle.record.specs.Rules.{kindOf, instructionOf};
 ghost use Rattle.standing.specs.Inner.{Reads};
 ghost use Rattle.moving.specs.Inner.{bitsOf, kindIn};
 ghost use Rattle.cycle.specs.Inner.{kindRead, standstill};
@@ -16,16 +15,15 @@ use decode::count_in_if;
 use decode::count_in_mem;
 use decode::count_in_st;
 use decode::kind;
-use decode::kind_number;
 use decode::less;
 use machine::Slot;
 use machine::State;
 use moving::Bits;
 use moving::arriving;
+use moving::digits;
 use moving::leaving;
 use moving::mask;
 use moving::none;
-use record::Fields;
 use standing::Standing;
 use starting::starts;
 
@@ -44,23 +42,19 @@ fn full(n: u32, s: State) -> Bits
     }
 }
 
-fn digit(f: Fields) -> u32
-    ensures { λ r. ⌜ (kindOf r ≡ instructionOf f .kind) × (r ≤ 7) ⌝ }
-{
-    kind_number(kind(f))
-}
-
-// The kinds of the instructions whose fields are read, an octal digit for each stage.
+// The kinds of the instructions whose fields are read.
 fn kinds_read(w: Standing) -> u32
     ensures { λ r. ⌜ ((k : Stage) → kindIn r k ≡ kindRead w k) ⌝ }
 {
-    digit(w.pre)
-        + 8 * digit(w.IF)
-        + 64 * digit(w.ID)
-        + 512 * digit(w.EX)
-        + 4096 * digit(w.MEM)
-        + 32768 * digit(w.ST)
-        + 262144 * digit(w.WB)
+    digits(
+        kind(w.pre),
+        kind(w.IF),
+        kind(w.ID),
+        kind(w.EX),
+        kind(w.MEM),
+        kind(w.ST),
+        kind(w.WB),
+    )
 }
 
 // A slot after the cycle: what comes in, else what stays, its count less 1, else nothing.
@@ -98,35 +92,35 @@ fn fetched_after(fetches: bool, fetched: u32) -> u32
     fetched
 }
 
-// What comes into each slot is what leaves the one before.
-fn slots_after(s: State, w: Standing, moving: Bits, coming: Bits, hit_cycles: u32) -> State
+// `moving` says which slots are left, `arriving` into which something comes from the slot before.
+fn slots_after(s: State, w: Standing, moving: Bits, arriving: Bits, hit_cycles: u32) -> State
     requires { ⌜ s .fetched ≤ maxInstructions ⌝ }
     ensures { λ r. ⌜ ((trace : Trace) →
         Reads trace s w →
         moving ≡ bitsOf (leaves trace s) →
-        coming ≡ bitsOf (arrives trace s) →
+        arriving ≡ bitsOf (arrives trace s) →
         r ≡ stepBySlots (withHits «hit_cycles» trace) s) ⌝ }
 {
     State {
         fetched: fetched_after(moving.pre, s.fetched),
-        IF: slot_after(coming.IF, s.fetched, count_in_if(w.pre), moving.IF, s.IF),
-        ID: slot_after(coming.ID, s.IF.index, 0, moving.ID, s.ID),
-        EX: slot_after(coming.EX, s.ID.index, w.ID.execution, moving.EX, s.EX),
+        IF: slot_after(arriving.IF, s.fetched, count_in_if(w.pre), moving.IF, s.IF),
+        ID: slot_after(arriving.ID, s.IF.index, 0, moving.ID, s.ID),
+        EX: slot_after(arriving.EX, s.ID.index, w.ID.execution, moving.EX, s.EX),
         MEM: slot_after(
-            coming.MEM,
+            arriving.MEM,
             s.EX.index,
             count_in_mem(w.EX, hit_cycles),
             moving.MEM,
             s.MEM,
         ),
         ST: slot_after(
-            coming.ST,
+            arriving.ST,
             s.MEM.index,
             count_in_st(w.MEM, hit_cycles),
             moving.ST,
             s.ST,
         ),
-        WB: slot_after(coming.WB, s.MEM.index, 0, moving.WB, s.WB),
+        WB: slot_after(arriving.WB, s.MEM.index, 0, moving.WB, s.WB),
     }
 }
 

@@ -12,7 +12,7 @@ ghost use Rattle.machine.specs.Rules.{
   readsInID,
   missesData,
 };
-ghost use Rattle.record.specs.Rules.{kindOf, instructionOf};
+ghost use Rattle.record.specs.Rules.{kindNumber, kindOf, instructionOf};
 use machine::Kind;
 use record::Fields;
 
@@ -31,7 +31,7 @@ pub const HIT: u32 = 0;
 pub const MISS: u32 = 1;
 
 pub fn kind_number(kind: Kind) -> u32
-    ensures { λ r. ⌜ (kindOf r ≡ kindNamed kind) × (r ≤ 7) ⌝ }
+    ensures { λ r. ⌜ (r ≡ kindNumber (kindNamed kind)) × (kindOf r ≡ kindNamed kind) × (r ≤ 7) ⌝ }
 {
     match kind {
         Kind::Plain => PLAIN,
@@ -46,6 +46,7 @@ pub fn kind_of(number: u32) -> Kind
     ensures { λ r. ⌜ kindNamed r ≡ kindOf number ⌝ }
 {
     match number {
+        PLAIN => Kind::Plain,
         LOAD => Kind::Load,
         STORE => Kind::Store,
         BRANCH => Kind::Branch,

@@ -1,13 +1,13 @@
 // The stage that comes after another: `stage'(i)` of Figure 5, a case for each stage and kind, in the
-// figure's order. The lines above the functions are the figure's; the comment beside a case names the
-// case of the definition that it is.
+// figure's order. The lines above the functions are the figure's; no kind here is its nop. The comment
+// beside a case names the case of the definition that it is.
 ghost use mathlib.Core.Path.{_≡_};
 ghost use Rattle.machine.specs.Rules.{next, pre, IF, ID, EX, MEM, ST, WB, post};
 ghost use Rattle.machine.specs.Named.{kindNamed, stageNamed};
 use machine::Kind;
 use machine::Stage;
 
-// post : stage(i) ∈ {ST, WB}
+// post : stage(i) ∈ {ST, WB} ∨ (stage(i) = ID ∧ opc(i) = nop)
 fn after_st(kind: Kind) -> Stage
     ensures { λ r. ⌜ stageNamed r ≡ next (kindNamed kind) ST ⌝ }
 {
@@ -19,6 +19,7 @@ fn after_st(kind: Kind) -> Stage
     }
 }
 
+// post : the same line
 fn after_wb(kind: Kind) -> Stage
     ensures { λ r. ⌜ stageNamed r ≡ next (kindNamed kind) WB ⌝ }
 {

@@ -69,7 +69,7 @@ module _ (h : ℕ) (trace : Trace) (s : State) where
   unfolding occupied
   occupied-alike = λ t k. ap (λ (held : Slot). held .filled) (standing-alike k) t
 
-  pub store-alike : storeInMEM (withHits h trace) s ≡ storeInMEM trace s
+  store-alike : storeInMEM (withHits h trace) s ≡ storeInMEM trace s
   unfolding storeInMEM
   store-alike = ap isStore (kind-alike (s .MEM .index))
 

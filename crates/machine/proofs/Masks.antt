@@ -1,4 +1,4 @@
--- The cycle by slots, for code that numbers the stages, pre 0 to post 7, and keeps one bit for each in a mask.
+-- The cycle by slots, for code that keeps a bit for each stage in a mask, at the stage's number, pre 0 to post 7, and compares stages by it.
 use Prim.Native.Nat.{ℕ, zero, suc, _+_, _*_, _^_, _/_, _%_, _≤_, _<_}
 use native.Mathlib.Omega.{arith}
 use mathlib.Core.Bool.{Bool, true, false, not}

@@ -49,10 +49,10 @@ HitChartHolds = rows (withHits 2 storeAndLoad) 10 ≡ chartOfHits
 abbrev pub way : Kind → List Stage
 way kind = pre ∷ IF ∷ ID ∷ EX ∷ MEM ∷ cond (isStore kind) ST WB ∷ post ∷ []
 
--- Document 02, F-5: "For each stage that a kind passes before post it is shown to be document 01's": where a stage comes directly before another on a
--- kind's way, the other is its next.
+-- Document 02, F-5: "For each stage that a kind passes before post it is shown to be document 01's": with the next of each stage in its place, the way
+-- is one stage on. "an instruction in post stays there"
 abbrev pub NextOnTheWay : Type 0
-NextOnTheWay = (kind : Kind) (earlier later : List Stage) (s t : Stage) → way kind ≡ earlier ++ s ∷ t ∷ later → next kind s ≡ t
+NextOnTheWay = (kind : Kind) → pre ∷ map (next kind) (way kind) ≡ way kind ++ post ∷ []
 
 -- `moves`, a test of instructions, and `willBeFree`, a test of stages, satisfy document 01's two sentences as equations: each is given by the other,
 -- and no budget is named.

@@ -10,9 +10,10 @@ use Rattle.machine.specs.Instruction.{Kind, plain, load, store, branch, 
 pub data Stage : Type 0 where
   pre IF ID EX MEM ST WB post : Stage
 
--- The next stage; document 02, F-5: "let each stage and kind have its own case, in the figure's order". The lines above the cases are the figure's.
+-- The next stage; document 02, F-5: "let each stage and kind have its own case, in the figure's order". The lines above the cases are the
+-- figure's; no kind here is its nop.
 abbrev pub next : Kind → Stage → Stage
--- post : stage(i) ∈ {ST, WB}
+-- post : stage(i) ∈ {ST, WB} ∨ (stage(i) = ID ∧ opc(i) = nop)
 next plain ST = post
 next load ST = post
 next store ST = post

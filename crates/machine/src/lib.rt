@@ -7,7 +7,7 @@ pub mod stage;
 
 pub use stage::Stage;
 
-// What an instruction is, by how it goes through the pipeline and what others wait for.
+// The kinds of instruction; a branch is a conditional one.
 pub enum Kind {
     Plain,
     Load,

@@ -92,8 +92,19 @@ fn after_pre(kind: u8) -> u8 {
     }
 }
 
-// "Stages run pre, IF, ID, EX, MEM, then ST for a store or WB for any other kind, then post." For post
-// the figure has no line: "an instruction in post stays there". No other number is a stage.
+// "an instruction in post stays there"; the figure has no line for post.
+fn after_post(kind: u8) -> u8 {
+    match kind {
+        PLAIN => POST,
+        LOAD => POST,
+        STORE => POST,
+        BRANCH => POST,
+        _ => POST,
+    }
+}
+
+// "Stages run pre, IF, ID, EX, MEM, then ST for a store or WB for any other kind, then post." No
+// other number is a stage.
 pub fn next(kind: u8, stage: u8) -> u8 {
     match stage {
         ST => after_st(kind),
@@ -103,7 +114,7 @@ pub fn next(kind: u8, stage: u8) -> u8 {
         ID => after_id(kind),
         IF => after_if(kind),
         PRE => after_pre(kind),
-        POST => POST,
+        POST => after_post(kind),
         _ => POST,
     }
 }

@@ -4,14 +4,13 @@ use native.Mathlib.Omega.{arith}
 use mathlib.Core.Path.{_≡_}
 
 pub record Octal (m a b c d e f g : ℕ) : Type 0 where
-  pub at0 : m / 1 % 8 ≡ a
+  pub at0 : m % 8 ≡ a
   pub at1 : m / 8 % 8 ≡ b
   pub at2 : m / 64 % 8 ≡ c
   pub at3 : m / 512 % 8 ≡ d
   pub at4 : m / 4096 % 8 ≡ e
   pub at5 : m / 32768 % 8 ≡ f
   pub at6 : m / 262144 % 8 ≡ g
-  pub at7 : m / 2097152 % 8 ≡ 0
 
 pub octal :
     {a b c d e f g : ℕ} →

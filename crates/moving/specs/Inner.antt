@@ -1,8 +1,8 @@
 -- One bit, and one kind, for each stage that an instruction can leave.
-use Prim.Native.Nat.{ℕ, _^_, _/_, _%_}
+use Prim.Native.Nat.{ℕ, _/_, _%_}
 use mathlib.Core.Bool.{Bool, false}
-use Rattle.machine.specs.Instruction.{Kind}
-use Rattle.machine.specs.Rules.{Stage, pre, IF, ID, EX, MEM, ST, WB, post, stageNumber}
+use Rattle.machine.specs.Instruction.{Kind, plain}
+use Rattle.machine.specs.Rules.{Stage, pre, IF, ID, EX, MEM, ST, WB, post}
 use Rattle.record.specs.Rules.{kindOf}
 use Rattle.moving.specs.declared.moving.Bits.{Bits}
 
@@ -20,6 +20,14 @@ bitOf b ST = b .ST
 bitOf b WB = b .WB
 bitOf b post = false
 
--- the kind in a stage, of the kinds as one number: an octal digit for each stage, pre's the lowest, which is the kind's number in a record
+-- The kind in a stage, of the kinds as one number: an octal digit for each stage, pre's the lowest. The digit is the kind's number in a record. Nothing
+-- stands in post.
 abbrev pub kindIn : ℕ → Stage → Kind
-kindIn kinds k = kindOf (kinds / 8 ^ stageNumber k % 8)
+kindIn kinds pre = kindOf (kinds % 8)
+kindIn kinds IF = kindOf (kinds / 8 % 8)
+kindIn kinds ID = kindOf (kinds / 64 % 8)
+kindIn kinds EX = kindOf (kinds / 512 % 8)
+kindIn kinds MEM = kindOf (kinds / 4096 % 8)
+kindIn kinds ST = kindOf (kinds / 32768 % 8)
+kindIn kinds WB = kindOf (kinds / 262144 % 8)
+kindIn kinds post = plain

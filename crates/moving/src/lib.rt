@@ -4,6 +4,7 @@ pub mod moving;
 
 pub use moving::Bits;
 pub use moving::arriving;
+pub use moving::digits;
 pub use moving::leaving;
 pub use moving::mask;
 pub use moving::none;

@@ -1,16 +1,18 @@
 // Who moves, and where to: "moves" and "will be free" over two masks, a bit for each stage from pre 0 to
-// WB 6, and the kinds that stand there as one number, an octal digit for each. In their place structs
-// would be copied at each call.
+// WB 6, and the kinds that stand there, an octal digit for each. They are numbers, since structs would be
+// copied at each call.
 ghost use mathlib.Core.Path.{_≡_};
 ghost use mathlib.Core.Bool.{false, not, _||_};
 ghost use Prim.Native.Nat.{_≤_};
 ghost use Rattle.machine.specs.Test.{_and_};
+ghost use Rattle.machine.specs.Rules as Rules;
 ghost use Rattle.machine.specs.Rules.{MEM, post, next, same, isStore};
 ghost use Rattle.machine.specs.Named.{kindNamed, stageNamed};
 ghost use Rattle.machine.proofs.BySlots.{movesAt, freeAt, arrivesIn};
 ghost use Rattle.machine.proofs.Flow.{bit};
 ghost use Rattle.machine.proofs.Masks.{bits, maskOf};
 ghost use Rattle.moving.specs.Inner.{bitsOf, bitOf, kindIn};
+use decode::kind_number;
 use decode::kind_of;
 use following::next;
 use machine::Kind;
@@ -50,6 +52,25 @@ pub fn mask(b: Bits) -> u32
         + 64 * digit(b.WB)
 }
 
+pub fn digits(pre: Kind, IF: Kind, ID: Kind, EX: Kind, MEM: Kind, ST: Kind, WB: Kind) -> u32
+    ensures { λ r. ⌜
+        (kindIn r Rules.pre ≡ kindNamed pre)
+        × (kindIn r Rules.IF ≡ kindNamed IF)
+        × (kindIn r Rules.ID ≡ kindNamed ID)
+        × (kindIn r Rules.EX ≡ kindNamed EX)
+        × (kindIn r Rules.MEM ≡ kindNamed MEM)
+        × (kindIn r Rules.ST ≡ kindNamed ST)
+        × (kindIn r Rules.WB ≡ kindNamed WB) ⌝ }
+{
+    kind_number(pre)
+        + 8 * kind_number(IF)
+        + 64 * kind_number(ID)
+        + 512 * kind_number(EX)
+        + 4096 * kind_number(MEM)
+        + 32768 * kind_number(ST)
+        + 262144 * kind_number(WB)
+}
+
 // No bit is set.
 pub fn none(b: Bits) -> bool
     ensures { λ r. ⌜ r ≡ not (b .pre || b .IF || b .ID || b .EX || b .MEM || b .ST || b .WB) ⌝ }
@@ -74,7 +95,7 @@ fn kind_in(kinds: u32, stage: Stage) -> Kind
         Stage::MEM => kind_of(kinds / 4096 % 8),
         Stage::ST => kind_of(kinds / 32768 % 8),
         Stage::WB => kind_of(kinds / 262144 % 8),
-        Stage::Post => kind_of(kinds / 2097152 % 8),
+        Stage::Post => Kind::Plain,
     }
 }
 
@@ -116,7 +137,7 @@ pub fn leaving(going: u32, full: u32, kinds: u32) -> Bits
     }
 }
 
-// What leaves a stage goes to this one.
+// Whether what leaves `from` goes to `to`.
 fn arrives(leaves: bool, kinds: u32, from: Stage, to: Stage) -> bool
     ensures { λ r. ⌜ r ≡ (leaves and same (next (kindIn kinds (stageNamed from)) (stageNamed from)) (stageNamed to)) ⌝ }
 {
@@ -126,7 +147,7 @@ fn arrives(leaves: bool, kinds: u32, from: Stage, to: Stage) -> bool
     false
 }
 
-// Into which stages an instruction comes; nothing comes into pre.
+// Into which stages an instruction comes, of those that can follow each other; nothing comes into pre.
 pub fn arriving(moving: Bits, kinds: u32) -> Bits
     ensures { λ r. ⌜ r ≡ bitsOf (arrivesIn (bitOf moving) (isStore (kindIn kinds MEM))) ⌝ }
 {

@@ -187,7 +187,10 @@ fn next(i: &Instruction, stage: Stage) -> Stage {
         (Pre, STORE) => If,
         (Pre, BRANCH) => If,
         // the figure has no line for post: "an instruction in post stays there"
-        (Post, _) => Post,
+        (Post, PLAIN) => Post,
+        (Post, LOAD) => Post,
+        (Post, STORE) => Post,
+        (Post, BRANCH) => Post,
         (_, kind) => unreachable!("{kind} is no kind, and no accepted trace has it"),
     }
 }

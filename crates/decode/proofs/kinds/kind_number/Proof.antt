@@ -21,19 +21,19 @@ enum-told-4 c = search needs
 
 returns : tie.Need-returns
 unfolding kindOf
-returns c = (sym (ap kindNamed (c .enum-told .given .1)), omega arith)
+returns c = (rw (c .enum-told .given .1), sym (ap kindNamed (c .enum-told .given .1)), omega arith)
 
 returns-2 : tie.Need-returns-2
 unfolding kindOf
-returns-2 c = (sym (ap kindNamed (c .enum-told2 .given .1)), omega arith)
+returns-2 c = (rw (c .enum-told2 .given .1), sym (ap kindNamed (c .enum-told2 .given .1)), omega arith)
 
 returns-3 : tie.Need-returns-3
 unfolding kindOf
-returns-3 c = (sym (ap kindNamed (c .enum-told3 .given .1)), omega arith)
+returns-3 c = (rw (c .enum-told3 .given .1), sym (ap kindNamed (c .enum-told3 .given .1)), omega arith)
 
 returns-4 : tie.Need-returns-4
 unfolding kindOf
-returns-4 c = (sym (ap kindNamed (c .enum-told4 .given .1)), omega arith)
+returns-4 c = (rw (c .enum-told4 .given .1), sym (ap kindNamed (c .enum-told4 .given .1)), omega arith)
 
 pub kind-number-spec : {M : Type 1} → statement M
 kind-number-spec = tie.close (tie.spec enum-told enum-told-2 enum-told-3 enum-told-4 returns returns-2 returns-3 returns-4)

@@ -1,14 +1,7 @@
 -- `kind_in` meets its contract: each stage has its own digit.
-use Prim.Native.Nat.{ℕ, _/_, _%_}
-use native.Mathlib.Omega.{arith}
-use mathlib.Core.Path.{_≡_, sym, ap, _∙_}
 use borrow.Author.Needs.{needs}
-use Rattle.record.specs.Rules.{kindOf}
 use Rattle.moving.proofs.moving.kind_in.Statement.{statement}
 use Rattle.moving.proofs.moving.kind_in.Tie as tie
-
-by-one : (n : ℕ) → n / 1 ≡ n
-by-one n = omega arith
 
 enum-told : tie.Need-enum-told
 enum-told c = search needs
@@ -55,11 +48,8 @@ kind-of-requires-7 c κs = tt
 enum-told-8 : tie.Need-enum-told-8
 enum-told-8 c = search needs
 
-kind-of-requires-8 : tie.Need-kind-of-requires-8
-kind-of-requires-8 c κs = tt
-
 returns : tie.Need-returns
-returns c = rw (c .before .enum-told .given .1) (c .kind-of .ensures ∙ ap (λ (n : ℕ). kindOf (n % 8)) (sym (by-one _)))
+returns c = rw (c .before .enum-told .given .1) (c .kind-of .ensures)
 
 returns-2 : tie.Need-returns-2
 returns-2 c = rw (c .before .enum-told2 .given .1) (c .kind-of2 .ensures)
@@ -80,7 +70,7 @@ returns-7 : tie.Need-returns-7
 returns-7 c = rw (c .before .enum-told7 .given .1) (c .kind-of7 .ensures)
 
 returns-8 : tie.Need-returns-8
-returns-8 c = rw (c .before .enum-told8 .given .1) (c .kind-of8 .ensures)
+returns-8 c = rw (c .enum-told8 .given .1)
 
 pub kind-in-spec : {M : Type 1} → statement M
 kind-in-spec =
@@ -101,7 +91,6 @@ kind-in-spec =
     enum-told-7
     kind-of-requires-7
     enum-told-8
-    kind-of-requires-8
     returns
     returns-2
     returns-3
