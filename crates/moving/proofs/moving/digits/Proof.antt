@@ -73,8 +73,7 @@ returns c =
     let MEM = c .before .before .kind-number5 .ensures in
     let ST = c .before .kind-number6 .ensures in
     let WB = c .kind-number7 .ensures in
-    let o = octal (pre .2) (IF .2) (ID .2) (EX .2) (MEM .2) (ST .2) (WB .2) in
-    (
+    let o = octal (pre .2) (IF .2) (ID .2) (EX .2) (MEM .2) (ST .2) (WB .2) in (
       ap kindOf (o .at0) ∙ pre .1,
       ap kindOf (o .at1) ∙ IF .1,
       ap kindOf (o .at2) ∙ ID .1,
