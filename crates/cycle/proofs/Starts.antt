@@ -4,19 +4,22 @@ use Prim.Native.Nat.{ℕ, suc}
 use mathlib.Core.Bool.{Bool, true, false, not, cond, _||_}
 use mathlib.Core.Path.{_≡_, refl, sym, ap, ap₂, fun-ext, _∙_}
 use Rattle.machine.specs.Test.{_and_, _or_}
-use Rattle.machine.specs.Instruction.{Trace, instruction}
-use Rattle.machine.specs.Rules.{Stage, pre, IF, ID, EX, MEM, ST, WB, post, same, budget, entry}
+use Rattle.machine.specs.Instruction.{Kind, Trace, instruction}
+use Rattle.machine.specs.Rules.{Stage, pre, IF, ID, EX, MEM, ST, WB, post, next, same, isStore, budget, entry}
 use Rattle.machine.specs.State.{slot}
 use Rattle.machine.specs.declared.State.{State}
 use Rattle.machine.proofs.Connectives.{Value, passed, failed, value, clash, and-l, and-r, and-failed-l, or-l, or-r, or-else, not-passes}
-use Rattle.machine.proofs.Doing.{nextIn}
-use Rattle.machine.proofs.BySlots.{standing, goes, occupied, storeInMEM, movesIn, movesAt, freeAt, moves-at, free-at, stageBefore, arrivesIn, arrives, leaves, slotAfter, newSlot, stepBySlots}
+use Rattle.machine.proofs.Doing.{nextIn, next-in}
+use Rattle.machine.proofs.BySlots.{standing, goes, occupied, kindsIn, movesIn, movesAt, freeAt, moves-at, free-at, stageBefore, arrivesIn, arrives, leaves, slotAfter, newSlot, stepBySlots}
+use Rattle.machine.proofs.Flow.{leaves-post}
 use Rattle.machine.proofs.Masks.{bits, maskOf, mask-bits, goes-post, occupied-post}
 use Rattle.moving.specs.declared.moving.Bits.{Bits}
 use Rattle.moving.specs.Inner.{bitsOf, bitOf}
 use Rattle.starting.specs.Inner.{opens, opensAfter, starts}
 use Rattle.cycle.specs.Inner.{stays, standstill}
-use Rattle.cycle.proofs.Slots.{state-is}
+use Rattle.decode.proofs.Joined.{and-under}
+use Rattle.cycle.proofs.Read.{moves-alike}
+use Rattle.cycle.proofs.Slots.{leaves-filled, state-is}
 
 -- a test that another implies may be left out
 implied : (g o f : Bool) → (f ≡ true → o ≡ true) → (g and o and f) ≡ (g and f)
@@ -31,10 +34,10 @@ not-true e = ap not e
 
 module _ (trace : Trace) (s : State) where
   abbrev moving : (Stage → Bool) → Stage → Bool
-  moving going k = movesAt going (occupied trace s) (storeInMEM trace s) k
+  moving going k = movesAt going (occupied trace s) (kindsIn trace s) k
 
   abbrev free : (Stage → Bool) → Stage → Bool
-  free going k = freeAt going (occupied trace s) (storeInMEM trace s) k
+  free going k = freeAt going (occupied trace s) (kindsIn trace s) k
 
   -- a slot that will be free is empty, or the count of what it holds is 0
   opened : (k : Stage) → same k post ≡ false → free (goes trace s) k ≡ true → opens (standing trace s k) ≡ true
@@ -44,26 +47,28 @@ module _ (trace : Trace) (s : State) where
       by : Value (standing trace s k .filled) → opens (standing trace s k) ≡ true
       by (failed t) = or-l _ _ (not-passes _ t)
       by (passed t) =
-          let m = or-else _ _ (or-else _ _ (sym (free-at (goes trace s) (occupied trace s) (storeInMEM trace s) k) ∙ e) n) (not-true t) in
-          or-r _ _ (and-r _ _ (and-l _ _ (and-l _ _ (sym (moves-at (goes trace s) (occupied trace s) (storeInMEM trace s) k n) ∙ m))))
+          let m = or-else _ _ (or-else _ _ (sym (free-at (goes trace s) (occupied trace s) (kindsIn trace s) k) ∙ e) n) (not-true t) in
+          or-r _ _ (and-r _ _ (and-l _ _ (and-l _ _ (sym (moves-at (goes trace s) (occupied trace s) (kindsIn trace s) k n) ∙ m))))
 
   free-same : (k : Stage) → moving (starts trace s) k ≡ moving (goes trace s) k → free (starts trace s) k ≡ free (goes trace s) k
   free-same k e =
-      free-at (starts trace s) (occupied trace s) (storeInMEM trace s) k
+      free-at (starts trace s) (occupied trace s) (kindsIn trace s) k
       ∙ ap (λ (m : Bool). same k post or (not (occupied trace s k) or m)) e
-      ∙ sym (free-at (goes trace s) (occupied trace s) (storeInMEM trace s) k)
+      ∙ sym (free-at (goes trace s) (occupied trace s) (kindsIn trace s) k)
 
   moves-same
       : (k : Stage) →
       same k post ≡ false →
-      free (starts trace s) (nextIn (storeInMEM trace s) k) ≡ free (goes trace s) (nextIn (storeInMEM trace s) k) →
-      (free (goes trace s) (nextIn (storeInMEM trace s) k) ≡ true → opensAfter s k ≡ true) →
+      free (starts trace s) (nextIn (isStore (kindsIn trace s k)) k) ≡ free (goes trace s) (nextIn (isStore (kindsIn trace s k)) k) →
+      (free (goes trace s) (nextIn (isStore (kindsIn trace s k)) k) ≡ true → opensAfter s k ≡ true) →
       moving (starts trace s) k ≡ moving (goes trace s) k
   moves-same k n f o =
-      moves-at (starts trace s) (occupied trace s) (storeInMEM trace s) k n
-      ∙ ap (λ (b : Bool). starts trace s k and b) f
+      let lane = next-in (kindsIn trace s k) k in
+      moves-at (starts trace s) (occupied trace s) (kindsIn trace s) k n
+      ∙ ap (λ (b : Bool). starts trace s k and b) (ap (free (starts trace s)) lane ∙ f)
       ∙ implied (goes trace s k) (opensAfter s k) _ o
-      ∙ sym (moves-at (goes trace s) (occupied trace s) (storeInMEM trace s) k n)
+      ∙ ap (λ (to : Stage). goes trace s k and free (goes trace s) to) (sym lane)
+      ∙ sym (moves-at (goes trace s) (occupied trace s) (kindsIn trace s) k n)
 
   from-post : moving (starts trace s) post ≡ moving (goes trace s) post
   unfolding movesAt movesIn budget
@@ -83,7 +88,7 @@ module _ (trace : Trace) (s : State) where
 
   from-MEM : moving (starts trace s) MEM ≡ moving (goes trace s) MEM
   unfolding nextIn
-  from-MEM = moves-same MEM refl (into-last (storeInMEM trace s)) (λ _. refl)
+  from-MEM = moves-same MEM refl (into-last (isStore (kindsIn trace s MEM))) (λ _. refl)
 
   from-EX : moving (starts trace s) EX ≡ moving (goes trace s) EX
   unfolding nextIn standing
@@ -112,33 +117,55 @@ module _ (trace : Trace) (s : State) where
   by-starts WB = from-WB
   by-starts post = from-post
 
-  pub leaving-is
-      : {going full : ℕ} {store : Bool} →
-      going ≡ maskOf (starts trace s) →
-      full ≡ maskOf (occupied trace s) →
-      store ≡ storeInMEM trace s →
-      bitsOf (movesAt (bits going) (bits full) store) ≡ bitsOf (leaves trace s)
-  leaving-is g f t =
-      ap bitsOf
-      (fun-ext λ k.
-      (λ i. movesAt (bits (g i)) (bits (f i)) (t i) k)
-      ∙ ap₂ (λ (going full : Stage → Bool). movesAt going full (storeInMEM trace s) k)
-      (fun-ext (mask-bits (starts trace s) (and-failed-l _ _ (goes-post trace s))))
-      (fun-ext (mask-bits (occupied trace s) (occupied-post trace s)))
-      ∙ by-starts k)
+  starts-filled : (k : Stage) → starts trace s k ≡ true → standing trace s k .filled ≡ true
+  unfolding goes
+  starts-filled k e = and-l _ _ (and-l _ _ (and-l _ _ e))
 
-  pub arriving-is
-      : {moving : Bits} {store : Bool} →
-      moving ≡ bitsOf (leaves trace s) →
-      store ≡ storeInMEM trace s →
-      bitsOf (arrivesIn (bitOf moving) store) ≡ bitsOf (arrives trace s)
-  unfolding arrives stageBefore leaves movesAt movesIn budget
-  arriving-is m t = λ i. bitsOf (arrivesIn (bitOf (m i)) (t i))
+  -- for kinds that are those of all that stand in the stages
+  module _ {kinds : Stage → Kind} (read : (k : Stage) → standing trace s k .filled ≡ true → kinds k ≡ kindsIn trace s k) where
+    pub leaving-is
+        : {going full : ℕ} →
+        going ≡ maskOf (starts trace s) →
+        full ≡ maskOf (occupied trace s) →
+        bitsOf (movesAt (bits going) (bits full) kinds) ≡ bitsOf (leaves trace s)
+    leaving-is g f =
+        ap bitsOf
+        (fun-ext λ k.
+        (λ i. movesAt (bits (g i)) (bits (f i)) kinds k)
+        ∙ ap₂ (λ (going full : Stage → Bool). movesAt going full kinds k)
+        (fun-ext (mask-bits (starts trace s) (and-failed-l _ _ (goes-post trace s))))
+        (fun-ext (mask-bits (occupied trace s) (occupied-post trace s)))
+        ∙ moves-alike (starts trace s) (occupied trace s) kinds (kindsIn trace s) (λ j e. read j (starts-filled j e)) k
+        ∙ by-starts k)
+
+    comes : (k : Stage) → same (stageBefore k) post ≡ false → arrivesIn (leaves trace s) kinds k ≡ arrives trace s k
+    unfolding arrives
+    comes k n =
+        and-under (leaves trace s (stageBefore k))
+        (λ l. ap (λ (kind : Kind). same (next kind (stageBefore k)) k) (read (stageBefore k) (leaves-filled trace s (stageBefore k) n l)))
+
+    pub arriving-is : {moving : Bits} → moving ≡ bitsOf (leaves trace s) → bitsOf (arrivesIn (bitOf moving) kinds) ≡ bitsOf (arrives trace s)
+    unfolding arrives stageBefore
+    arriving-is m =
+        (λ i. bitsOf (arrivesIn (bitOf (m i)) kinds))
+        ∙ (λ i.
+        record {
+          pre = none i;
+          IF = comes IF refl i;
+          ID = comes ID refl i;
+          EX = comes EX refl i;
+          MEM = comes MEM refl i;
+          ST = comes ST refl i;
+          WB = comes WB refl i;
+        })
+      where
+        none : arrivesIn (bitOf (bitsOf (leaves trace s))) kinds pre ≡ arrives trace s pre
+        none = and-failed-l _ _ refl ∙ sym (and-failed-l _ _ (leaves-post trace s))
 
   module _ (idle : (k : Stage) → starts trace s k ≡ false) where
     nobody-leaves : (k : Stage) → same k post ≡ false → leaves trace s k ≡ false
     nobody-leaves k n =
-        sym (by-starts k) ∙ moves-at (starts trace s) (occupied trace s) (storeInMEM trace s) k n ∙ and-failed-l _ _ (idle k)
+        sym (by-starts k) ∙ moves-at (starts trace s) (occupied trace s) (kindsIn trace s) k n ∙ and-failed-l _ _ (idle k)
 
     slot-stays : (k : Stage) → leaves trace s (stageBefore k) ≡ false → leaves trace s k ≡ false → stays (slot s k) ≡ newSlot trace s k
     unfolding newSlot slotAfter arrives

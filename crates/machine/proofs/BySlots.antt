@@ -6,13 +6,12 @@ use mathlib.Core.Path.{_≡_, refl, ap}
 use lib.Dec.{ltb, eqb}
 use lib.ListN.{length}
 use Rattle.machine.specs.Test.{_and_, _or_}
-use Rattle.machine.specs.Instruction.{Trace, instruction}
-use Rattle.machine.specs.Rules.{Stage, pre, IF, ID, EX, MEM, ST, WB, post, same, isStore, entry, budget}
+use Rattle.machine.specs.Instruction.{Kind, Trace, instruction}
+use Rattle.machine.specs.Rules.{Stage, pre, IF, ID, EX, MEM, ST, WB, post, next, same, entry, budget}
 use Rattle.machine.specs.State.{emptySlot, slot}
 use Rattle.machine.specs.declared.Slot.{Slot}
 use Rattle.machine.specs.declared.State.{State}
-use Rattle.machine.proofs.Connectives.{clash}
-use Rattle.machine.proofs.Doing.{nextIn}
+use Rattle.machine.proofs.Budget.{budget-next}
 use Rattle.machine.proofs.Hazards.{detains}
 
 -- the instruction in a stage that may move on; in pre, the one to be fetched next
@@ -50,50 +49,39 @@ goes trace s k =
 unfoldable pub occupied : Trace → State → Stage → Bool
 occupied trace s k = standing trace s k .filled
 
-unfoldable pub storeInMEM : Trace → State → Bool
-storeInMEM trace s = isStore (instruction trace (s .MEM .index) .kind)
+-- the kind of a stage's instruction
+unfoldable pub kindsIn : Trace → State → Stage → Kind
+kindsIn trace s k = instruction trace (standing trace s k .index) .kind
 
--- "Moves" and "will be free" over these bits, with the budget of the rules.
+-- "Moves" and "will be free" over these bits and kinds, with the budget of the rules.
 unfoldable mutual
-  pub movesIn : ℕ → (Stage → Bool) → (Stage → Bool) → Bool → Stage → Bool
-  movesIn zero going full inMEM k = false
-  movesIn (suc b) going full inMEM k = going k and freeIn b going full inMEM (nextIn inMEM k)
+  pub movesIn : ℕ → (Stage → Bool) → (Stage → Bool) → (Stage → Kind) → Stage → Bool
+  movesIn zero going full kinds k = false
+  movesIn (suc b) going full kinds k = going k and freeIn b going full kinds (next (kinds k) k)
 
-  pub freeIn : ℕ → (Stage → Bool) → (Stage → Bool) → Bool → Stage → Bool
-  freeIn zero going full inMEM k = true
-  freeIn (suc b) going full inMEM k = same k post or (not (full k) or movesIn b going full inMEM k)
+  pub freeIn : ℕ → (Stage → Bool) → (Stage → Bool) → (Stage → Kind) → Stage → Bool
+  freeIn zero going full kinds k = true
+  freeIn (suc b) going full kinds k = same k post or (not (full k) or movesIn b going full kinds k)
 
-unfoldable pub movesAt : (Stage → Bool) → (Stage → Bool) → Bool → Stage → Bool
-movesAt going full inMEM k = movesIn (budget k) going full inMEM k
+unfoldable pub movesAt : (Stage → Bool) → (Stage → Bool) → (Stage → Kind) → Stage → Bool
+movesAt going full kinds k = movesIn (budget k) going full kinds k
 
-unfoldable pub freeAt : (Stage → Bool) → (Stage → Bool) → Bool → Stage → Bool
-freeAt going full inMEM k = freeIn (suc (budget k)) going full inMEM k
-
-into-last : (going full : Stage → Bool) (inMEM : Bool) → freeIn 3 going full inMEM (cond inMEM ST WB) ≡ freeAt going full inMEM (cond inMEM ST WB)
-unfolding freeAt budget
-into-last going full true = refl
-into-last going full false = refl
+unfoldable pub freeAt : (Stage → Bool) → (Stage → Bool) → (Stage → Kind) → Stage → Bool
+freeAt going full kinds k = freeIn (suc (budget k)) going full kinds k
 
 -- the two at the full budget, as equations in which the budget does not appear, which is how the code's functions call each other
-module _ (going full : Stage → Bool) (inMEM : Bool) where
-  pub moves-at : (k : Stage) → same k post ≡ false → movesAt going full inMEM k ≡ going k and freeAt going full inMEM (nextIn inMEM k)
-  unfolding movesAt freeAt budget movesIn nextIn
-  moves-at pre e = refl
-  moves-at IF e = refl
-  moves-at ID e = refl
-  moves-at EX e = refl
-  moves-at MEM e = ap (λ (f : Bool). going MEM and f) (into-last going full inMEM)
-  moves-at ST e = refl
-  moves-at WB e = refl
-  moves-at post e = clash refl e
+module _ (going full : Stage → Bool) (kinds : Stage → Kind) where
+  pub moves-at : (k : Stage) → same k post ≡ false → movesAt going full kinds k ≡ going k and freeAt going full kinds (next (kinds k) k)
+  unfolding movesAt freeAt movesIn
+  moves-at k e = ap (λ (b : ℕ). movesIn b going full kinds k) (budget-next (kinds k) k e)
 
-  pub free-at : (k : Stage) → freeAt going full inMEM k ≡ same k post or (not (full k) or movesAt going full inMEM k)
+  pub free-at : (k : Stage) → freeAt going full kinds k ≡ same k post or (not (full k) or movesAt going full kinds k)
   unfolding movesAt freeAt freeIn
   free-at k = refl
 
 -- whether the stage's instruction moves in this cycle
 unfoldable pub leaves : Trace → State → Stage → Bool
-leaves trace s k = movesAt (goes trace s) (occupied trace s) (storeInMEM trace s) k
+leaves trace s k = movesAt (goes trace s) (occupied trace s) (kindsIn trace s) k
 
 -- the stage before another; nothing comes into pre
 unfoldable pub stageBefore : Stage → Stage
@@ -106,23 +94,15 @@ stageBefore ST = MEM
 stageBefore WB = MEM
 stageBefore post = post
 
--- a store goes from MEM to ST, any other kind to WB
-unfoldable pub takes : Bool → Stage → Bool
-takes inMEM pre = false
-takes inMEM IF = true
-takes inMEM ID = true
-takes inMEM EX = true
-takes inMEM MEM = true
-takes inMEM ST = inMEM
-takes inMEM WB = not inMEM
-takes inMEM post = false
+-- what leaves the stage before goes to this one
+abbrev pub takes : (Stage → Kind) → Stage → Bool
+takes kinds k = same (next (kinds (stageBefore k)) (stageBefore k)) k
 
--- something comes into a stage when the stage before is left, and what leaves it goes there
-abbrev pub arrivesIn : (Stage → Bool) → Bool → Stage → Bool
-arrivesIn leaving inMEM k = leaving (stageBefore k) and takes inMEM k
+abbrev pub arrivesIn : (Stage → Bool) → (Stage → Kind) → Stage → Bool
+arrivesIn leaving kinds k = leaving (stageBefore k) and takes kinds k
 
 unfoldable pub arrives : Trace → State → Stage → Bool
-arrives trace s k = arrivesIn (leaves trace s) (storeInMEM trace s) k
+arrives trace s k = arrivesIn (leaves trace s) (kindsIn trace s) k
 
 -- a slot after the cycle: what comes in, else what stays, its count less 1, else nothing
 unfoldable pub slotAfter : Bool → ℕ → ℕ → Bool → Slot → Slot

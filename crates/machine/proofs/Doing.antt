@@ -1,8 +1,8 @@
 -- What an instruction does, by its kind. The theory goes by these facts alone, so that a kind more is a line in each and no case in a proof.
-use mathlib.Core.Bool.{Bool, true, false, cond}
-use mathlib.Core.Path.{_≡_, refl, _∙_}
+use mathlib.Core.Bool.{Bool, true, false, not, cond}
+use mathlib.Core.Path.{_≡_, refl, ap, _∙_}
 use Rattle.machine.specs.Instruction.{Kind, plain, load, store, branch}
-use Rattle.machine.specs.Rules.{Stage, pre, IF, ID, EX, MEM, ST, WB, post, next, isLoad, isStore, holdsFetches}
+use Rattle.machine.specs.Rules.{Stage, pre, IF, ID, EX, MEM, ST, WB, post, next, same, isLoad, isStore, holdsFetches}
 use Rattle.machine.proofs.Stages.{eight}
 
 -- of the three things that others wait for, an instruction does one or none: it holds fetches back, loads, or stores
@@ -36,9 +36,22 @@ next-in load = eight (λ k. next load k ≡ nextIn false k) refl refl refl refl 
 next-in store = eight (λ k. next store k ≡ nextIn true k) refl refl refl refl refl refl refl refl
 next-in branch = eight (λ k. next branch k ≡ nextIn false k) refl refl refl refl refl refl refl refl
 
--- of the lanes only that in MEM matters
-pub next-by-lane : (kinds : Stage → Kind) (k : Stage) → next (kinds k) k ≡ nextIn (isStore (kinds MEM)) k
+-- what comes next in its lane, as tests
+pub into : (kind : Kind) (k to : Stage) → same (nextIn (isStore kind) k) to ≡ true → same (next kind k) to ≡ true
+into kind k to e = ap (λ (t : Stage). same t to) (next-in kind k) ∙ e
+
+last-ST : (lane : Bool) → same (cond lane ST WB) ST ≡ lane
+last-ST true = refl
+last-ST false = refl
+
+last-WB : (lane : Bool) → same (cond lane ST WB) WB ≡ not lane
+last-WB true = refl
+last-WB false = refl
+
+pub into-ST : (kind : Kind) → same (next kind MEM) ST ≡ isStore kind
 unfolding nextIn
-next-by-lane kinds k =
-    next-in (kinds k) k
-    ∙ eight (λ k. nextIn (isStore (kinds k)) k ≡ nextIn (isStore (kinds MEM)) k) refl refl refl refl refl refl refl refl k
+into-ST kind = ap (λ (t : Stage). same t ST) (next-in kind MEM) ∙ last-ST (isStore kind)
+
+pub into-WB : (kind : Kind) → same (next kind MEM) WB ≡ not (isStore kind)
+unfolding nextIn
+into-WB kind = ap (λ (t : Stage). same t WB) (next-in kind MEM) ∙ last-WB (isStore kind)

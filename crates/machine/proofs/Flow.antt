@@ -7,14 +7,14 @@ use mathlib.Core.Path.{_≡_, refl, sym, ap, subst, _∙_}
 use borrow.Author.Tests.{not-true}
 use Rattle.machine.specs.Test.{_and_}
 use Rattle.machine.specs.Instruction.{Kind, Trace, instruction}
-use Rattle.machine.specs.Rules.{Stage, pre, IF, ID, EX, MEM, ST, WB, post, next, same, isStore, entry, budget}
+use Rattle.machine.specs.Rules.{Stage, pre, IF, ID, EX, MEM, ST, WB, post, next, same, entry, budget}
 use Rattle.machine.specs.State.{emptySlot, slot, younger}
 use Rattle.machine.specs.declared.Slot.{Slot}
 use Rattle.machine.specs.declared.State.{State}
 use Rattle.machine.proofs.Connectives.{clash, Value, passed, failed, value, and-l, and-r, and-true, or-else, implies}
 use Rattle.machine.proofs.Stages.{same-stage, inside, inside-not-post}
-use Rattle.machine.proofs.Doing.{nextIn, next-by-lane}
-use Rattle.machine.proofs.BySlots.{standing, goes, occupied, storeInMEM, movesIn, movesAt, freeAt, moves-at, free-at, leaves, stageBefore, takes, arrives, slotAfter, newSlot, stepBySlots}
+use Rattle.machine.proofs.Doing.{nextIn, into}
+use Rattle.machine.proofs.BySlots.{standing, goes, occupied, kindsIn, movesIn, movesAt, freeAt, moves-at, free-at, leaves, stageBefore, takes, arrives, slotAfter, newSlot, stepBySlots}
 use Rattle.machine.proofs.Moving.{standing-slot}
 
 -- a slot after the cycle, by what happened to it
@@ -34,35 +34,26 @@ pub data After (trace : Trace) (s : State) (k : Stage) : Slot → Type 0 where
       After trace s k (record { filled = true; index = slot s k .index; count = slot s k .count - 1 })
   vacant : arrives trace s k ≡ false → slot s k .filled and not (leaves trace s k) ≡ false → After trace s k emptySlot
 
-pub takes-next : (inMEM : Bool) (k : Stage) → takes inMEM k ≡ true → nextIn inMEM (stageBefore k) ≡ k
-unfolding takes nextIn stageBefore
-takes-next inMEM pre e = clash e refl
-takes-next inMEM IF e = refl
-takes-next inMEM ID e = refl
-takes-next inMEM EX e = refl
-takes-next inMEM MEM e = refl
-takes-next true ST e = refl
-takes-next false ST e = clash e refl
-takes-next true WB e = clash e refl
-takes-next false WB e = refl
-takes-next inMEM post e = clash e refl
+pub takes-next : (kinds : Stage → Kind) (k : Stage) → takes kinds k ≡ true → next (kinds (stageBefore k)) (stageBefore k) ≡ k
+takes-next kinds k = same-stage (next (kinds (stageBefore k)) (stageBefore k)) k
 
-takes-along : (lane : Bool) (k : Stage) → inside k ≡ true → same (nextIn lane (stageBefore k)) k ≡ takes lane k
-unfolding takes nextIn stageBefore
-takes-along lane pre w = clash w refl
-takes-along lane IF w = refl
-takes-along lane ID w = refl
-takes-along lane EX w = refl
-takes-along lane MEM w = refl
-takes-along true ST w = refl
-takes-along false ST w = refl
-takes-along true WB w = refl
-takes-along false WB w = refl
-takes-along lane post w = clash w refl
+-- into IF to MEM goes whatever leaves the stage before
+module _ (kinds : Stage → Kind) where
+  pub takes-IF : takes kinds IF ≡ true
+  unfolding stageBefore nextIn
+  takes-IF = into (kinds pre) pre IF refl
 
--- the same by the kinds of what stands in the stages
-pub takes-by-next : (kinds : Stage → Kind) (k : Stage) → inside k ≡ true → same (next (kinds (stageBefore k)) (stageBefore k)) k ≡ takes (isStore (kinds MEM)) k
-takes-by-next kinds k w = ap (λ (to : Stage). same to k) (next-by-lane kinds (stageBefore k)) ∙ takes-along (isStore (kinds MEM)) k w
+  pub takes-ID : takes kinds ID ≡ true
+  unfolding stageBefore nextIn
+  takes-ID = into (kinds IF) IF ID refl
+
+  pub takes-EX : takes kinds EX ≡ true
+  unfolding stageBefore nextIn
+  takes-EX = into (kinds ID) ID EX refl
+
+  pub takes-MEM : takes kinds MEM ≡ true
+  unfolding stageBefore nextIn
+  takes-MEM = into (kinds EX) EX MEM refl
 
 module _ (trace : Trace) (s : State) where
   pub after-cycle : (k : Stage) → After trace s k (newSlot trace s k)
@@ -74,20 +65,20 @@ module _ (trace : Trace) (s : State) where
       by (failed a) (passed e) = rw (a, e) (stayed a (and-l _ _ e) (not-true _ (and-r _ _ e)))
       by (failed a) (failed e) = rw (a, e) (vacant a e)
 
-  leaves-post : leaves trace s post ≡ false
+  pub leaves-post : leaves trace s post ≡ false
   unfolding leaves movesAt movesIn budget
   leaves-post = refl
 
   free : Stage → Bool
-  free k = freeAt (goes trace s) (occupied trace s) (storeInMEM trace s) k
+  free k = freeAt (goes trace s) (occupied trace s) (kindsIn trace s) k
 
-  leaves-both : (k : Stage) → leaves trace s k ≡ true → goes trace s k and free (nextIn (storeInMEM trace s) k) ≡ true
+  leaves-both : (k : Stage) → leaves trace s k ≡ true → goes trace s k and free (next (kindsIn trace s k) k) ≡ true
   unfolding leaves free
   leaves-both k e = by (value (same k post))
     where
-      by : Value (same k post) → goes trace s k and free (nextIn (storeInMEM trace s) k) ≡ true
+      by : Value (same k post) → goes trace s k and free (next (kindsIn trace s k) k) ≡ true
       by (passed p) = clash e (ap (leaves trace s) (same-stage k post p) ∙ leaves-post)
-      by (failed p) = sym (moves-at (goes trace s) (occupied trace s) (storeInMEM trace s) k p) ∙ e
+      by (failed p) = sym (moves-at (goes trace s) (occupied trace s) (kindsIn trace s) k p) ∙ e
 
   pub leaves-filled : (k : Stage) → leaves trace s k ≡ true → standing trace s k .filled ≡ true
   unfolding goes
@@ -98,9 +89,9 @@ module _ (trace : Trace) (s : State) where
   unfolding arrives leaves occupied free
   arrives-free k w a f =
       let e = and-r _ _ (leaves-both (stageBefore k) (and-l _ _ a)) in
-      let into = subst (λ (k : Stage). free k ≡ true) (takes-next (storeInMEM trace s) k (and-r _ _ a)) e in
+      let into = subst (λ (k : Stage). free k ≡ true) (takes-next (kindsIn trace s) k (and-r _ _ a)) e in
       implies _ _
-      (or-else _ _ (sym (free-at (goes trace s) (occupied trace s) (storeInMEM trace s) k) ∙ into) (inside-not-post k w))
+      (or-else _ _ (sym (free-at (goes trace s) (occupied trace s) (kindsIn trace s) k) ∙ into) (inside-not-post k w))
       (ap (λ (r : Slot). r .filled) (standing-slot trace s k w) ∙ f)
 
 -- a test as a number
@@ -146,7 +137,7 @@ module _ (trace : Trace) (s : State) where
   passes :
       (k : Stage) →
       inside k ≡ true →
-      takes (storeInMEM trace s) k ≡ true →
+      takes (kindsIn trace s) k ≡ true →
       bit (newSlot trace s k .filled) + bit (leaves trace s k) ≡ bit (slot s k .filled) + bit (leaves trace s (stageBefore k))
   unfolding arrives
   passes k w t =
@@ -158,12 +149,12 @@ module _ (trace : Trace) (s : State) where
       (k : Stage) →
       inside k ≡ true →
       younger (stepBySlots trace s) k + bit (leaves trace s (stageBefore k)) ≡ younger s k + bit (leaves trace s pre)
-  unfolding stepBySlots younger stageBefore takes
+  unfolding stepBySlots younger stageBefore
   younger-after pre w = clash w refl
   younger-after IF w = refl
-  younger-after ID w = passes IF refl refl
-  younger-after EX w = omega (arith, passes IF refl refl, passes ID refl refl)
-  younger-after MEM w = omega (arith, passes IF refl refl, passes ID refl refl, passes EX refl refl)
-  younger-after ST w = omega (arith, passes IF refl refl, passes ID refl refl, passes EX refl refl, passes MEM refl refl)
-  younger-after WB w = omega (arith, passes IF refl refl, passes ID refl refl, passes EX refl refl, passes MEM refl refl)
+  younger-after ID w = passes IF refl (takes-IF (kindsIn trace s))
+  younger-after EX w = omega (arith, passes IF refl (takes-IF (kindsIn trace s)), passes ID refl (takes-ID (kindsIn trace s)))
+  younger-after MEM w = omega (arith, passes IF refl (takes-IF (kindsIn trace s)), passes ID refl (takes-ID (kindsIn trace s)), passes EX refl (takes-EX (kindsIn trace s)))
+  younger-after ST w = omega (arith, passes IF refl (takes-IF (kindsIn trace s)), passes ID refl (takes-ID (kindsIn trace s)), passes EX refl (takes-EX (kindsIn trace s)), passes MEM refl (takes-MEM (kindsIn trace s)))
+  younger-after WB w = omega (arith, passes IF refl (takes-IF (kindsIn trace s)), passes ID refl (takes-ID (kindsIn trace s)), passes EX refl (takes-EX (kindsIn trace s)), passes MEM refl (takes-MEM (kindsIn trace s)))
   younger-after post w = clash w refl

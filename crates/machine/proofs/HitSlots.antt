@@ -3,12 +3,12 @@
 use Prim.Native.Nat.{ℕ}
 use mathlib.Core.Path.{_≡_, refl, sym, ap, _∙_}
 use Rattle.machine.specs.Instruction.{Instruction, Trace, instruction}
-use Rattle.machine.specs.Rules.{Stage, pre, IF, ID, EX, MEM, ST, WB, post, readsInID, missesData, isStore}
+use Rattle.machine.specs.Rules.{Stage, pre, IF, ID, EX, MEM, ST, WB, post, readsInID, missesData}
 use Rattle.machine.specs.Hits.{withHit, withHits}
 use Rattle.machine.specs.declared.Slot.{Slot}
 use Rattle.machine.specs.declared.State.{State}
 use Rattle.machine.proofs.Hazards.{asksFor, waitsFor}
-use Rattle.machine.proofs.BySlots.{standing, holdsBack, heldBack, goes, occupied, storeInMEM, movesAt, leaves, arrivesIn, arrives}
+use Rattle.machine.proofs.BySlots.{standing, holdsBack, heldBack, goes, occupied, kindsIn, movesAt, leaves, arrivesIn, arrives}
 use Rattle.machine.proofs.Hits.{length-hits, instruction-hits}
 
 asks-alike : (h : ℕ) (k : Stage) (i j : Instruction) → asksFor k (withHit h i) (withHit h j) ≡ asksFor k i j
@@ -69,14 +69,17 @@ module _ (h : ℕ) (trace : Trace) (s : State) where
   unfolding occupied
   occupied-alike = λ t k. ap (λ (held : Slot). held .filled) (standing-alike k) t
 
-  store-alike : storeInMEM (withHits h trace) s ≡ storeInMEM trace s
-  unfolding storeInMEM
-  store-alike = ap isStore (kind-alike (s .MEM .index))
+  kinds-alike : kindsIn (withHits h trace) s ≡ kindsIn trace s
+  unfolding kindsIn
+  kinds-alike = λ t k. at k t
+    where
+      at : (k : Stage) → kindsIn (withHits h trace) s k ≡ kindsIn trace s k
+      at k = ap (λ (held : Slot). instruction (withHits h trace) (held .index) .kind) (standing-alike k) ∙ kind-alike (standing trace s k .index)
 
   pub leaves-alike : leaves (withHits h trace) s ≡ leaves trace s
   unfolding leaves
-  leaves-alike = λ t k. movesAt (goes-alike t) (occupied-alike t) (store-alike t) k
+  leaves-alike = λ t k. movesAt (goes-alike t) (occupied-alike t) (kinds-alike t) k
 
   pub arrives-alike : arrives (withHits h trace) s ≡ arrives trace s
   unfolding arrives
-  arrives-alike = λ t k. arrivesIn (leaves-alike t) (store-alike t) k
+  arrives-alike = λ t k. arrivesIn (leaves-alike t) (kinds-alike t) k

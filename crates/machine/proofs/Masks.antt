@@ -6,11 +6,11 @@ use mathlib.Core.Path.{_≡_, refl, sym, ap, ap₂, _∙_}
 use lib.Dec.{eqb, ltb}
 use Rattle.machine.specs.Test.{_and_, _or_}
 use Rattle.machine.specs.Instruction.{Kind, Trace}
-use Rattle.machine.specs.Rules.{Stage, pre, IF, ID, EX, MEM, ST, WB, post, same, further, shortOf}
+use Rattle.machine.specs.Rules.{Stage, pre, IF, ID, EX, MEM, ST, WB, post, next, same, further, shortOf}
 use Rattle.machine.specs.declared.State.{State}
 use Rattle.machine.proofs.Connectives.{true-and, or-l, or-r, and-failed-l}
 use Rattle.machine.proofs.Stages.{stageNumber, stageAt, eight}
-use Rattle.machine.proofs.Doing.{Does, holding, loading, storing, nothing, does, nextIn}
+use Rattle.machine.proofs.Doing.{Does, holding, loading, storing, nothing, does}
 use Rattle.machine.proofs.Hazards.{goalOf, goal, pendingTo, pending}
 use Rattle.machine.proofs.BySlots.{standing, goes, occupied, movesAt, freeAt, moves-at, free-at}
 use Rattle.machine.proofs.Flow.{bit}
@@ -39,27 +39,27 @@ upTo P a b c d e f g h (suc (suc (suc (suc (suc (suc (suc zero))))))) l = h
 upTo P a b c d e f g h (suc (suc (suc (suc (suc (suc (suc (suc n)))))))) l = absurd (omega arith)
 
 -- "Moves" and "will be free" over masks, one law for each path through the code.
-module _ (going full : ℕ) (inMEM : Bool) (k : Stage) (h : same k post ≡ false) where
-  pub moves-off : bits going k ≡ false → movesAt (bits going) (bits full) inMEM k ≡ false
-  moves-off e = moves-at (bits going) (bits full) inMEM k h ∙ and-failed-l _ _ e
+module _ (going full : ℕ) (kinds : Stage → Kind) (k : Stage) (h : same k post ≡ false) where
+  pub moves-off : bits going k ≡ false → movesAt (bits going) (bits full) kinds k ≡ false
+  moves-off e = moves-at (bits going) (bits full) kinds k h ∙ and-failed-l _ _ e
 
-  pub moves-on : bits going k ≡ true → movesAt (bits going) (bits full) inMEM k ≡ freeAt (bits going) (bits full) inMEM (nextIn inMEM k)
+  pub moves-on : bits going k ≡ true → movesAt (bits going) (bits full) kinds k ≡ freeAt (bits going) (bits full) kinds (next (kinds k) k)
   moves-on e =
-      moves-at (bits going) (bits full) inMEM k h
-      ∙ ap (λ (b : Bool). b and freeAt (bits going) (bits full) inMEM (nextIn inMEM k)) e
+      moves-at (bits going) (bits full) kinds k h
+      ∙ ap (λ (b : Bool). b and freeAt (bits going) (bits full) kinds (next (kinds k) k)) e
       ∙ true-and _
 
-  pub free-empty : bits full k ≡ false → freeAt (bits going) (bits full) inMEM k ≡ true
-  free-empty e = free-at (bits going) (bits full) inMEM k ∙ or-r _ _ (or-l _ _ (ap not e))
+  pub free-empty : bits full k ≡ false → freeAt (bits going) (bits full) kinds k ≡ true
+  free-empty e = free-at (bits going) (bits full) kinds k ∙ or-r _ _ (or-l _ _ (ap not e))
 
-  pub free-filled : bits full k ≡ true → freeAt (bits going) (bits full) inMEM k ≡ movesAt (bits going) (bits full) inMEM k
+  pub free-filled : bits full k ≡ true → freeAt (bits going) (bits full) kinds k ≡ movesAt (bits going) (bits full) kinds k
   unfolding _or_
   free-filled e =
-      free-at (bits going) (bits full) inMEM k
-      ∙ ap₂ _or_ h (ap (λ (b : Bool). not b or movesAt (bits going) (bits full) inMEM k) e)
+      free-at (bits going) (bits full) kinds k
+      ∙ ap₂ _or_ h (ap (λ (b : Bool). not b or movesAt (bits going) (bits full) kinds k) e)
 
-pub free-post : (going full : ℕ) (inMEM : Bool) (k : Stage) → same k post ≡ true → freeAt (bits going) (bits full) inMEM k ≡ true
-free-post going full inMEM k e = free-at (bits going) (bits full) inMEM k ∙ or-l _ _ e
+pub free-post : (going full : ℕ) (kinds : Stage → Kind) (k : Stage) → same k post ≡ true → freeAt (bits going) (bits full) kinds k ≡ true
+free-post going full kinds k e = free-at (bits going) (bits full) kinds k ∙ or-l _ _ e
 
 -- a mask has the bits that it was made of
 small : (b : Bool) → bit b ≤ 1

@@ -8,15 +8,15 @@ use lib.Dec.{eqb}
 use lib.ListN.{length}
 use Rattle.machine.specs.Test.{_and_, _or_, every}
 use Rattle.machine.specs.Instruction.{Trace, instruction}
-use Rattle.machine.specs.Rules.{Stage, pre, IF, ID, EX, MEM, ST, WB, post, next, same, Place, noOlder, accessReady, readyIn, ready, budget, movesWithin, moves, willBeFree}
+use Rattle.machine.specs.Rules.{Stage, pre, IF, ID, EX, MEM, ST, WB, post, next, same, isStore, Place, noOlder, accessReady, readyIn, ready, budget, movesWithin, moves, willBeFree}
 use Rattle.machine.specs.State.{slot, placeOf, Orderly}
 use Rattle.machine.specs.declared.Slot.{Slot}
 use Rattle.machine.specs.declared.State.{State}
 use Rattle.machine.proofs.Connectives.{clash, Value, passed, failed, value, both-ways, and-failed-l, and-failed-r, implied, implies, or-l, true-and, every-at, every-below, none-fails}
 use Rattle.machine.proofs.Stages.{same-stage, stage-same, inside}
 use Rattle.machine.proofs.Spots.{held-filled, held-index, held-at, slot-fetched, place-held, place-waiting}
-use Rattle.machine.proofs.Doing.{nextIn, next-in, next-by-lane}
-use Rattle.machine.proofs.BySlots.{standing, heldBack, goes, occupied, storeInMEM, freeAt, moves-at, free-at, leaves}
+use Rattle.machine.proofs.Doing.{nextIn, next-in}
+use Rattle.machine.proofs.BySlots.{standing, heldBack, goes, occupied, kindsIn, freeAt, moves-at, free-at, leaves}
 use Rattle.machine.proofs.Budget.{budget-never-decides}
 use Rattle.machine.proofs.Hazards.{readyAsked}
 use Rattle.machine.proofs.Ready.{ready-by-slots}
@@ -59,15 +59,11 @@ module _ (trace : Trace) (s : State) (o : Orderly trace s) where
   standing-fetched WB f = let h = slot-fetched trace s o WB f in omega arith
   standing-fetched post f = clash f refl
 
-  pub standing-next : (k : Stage) → next (instruction trace (standing trace s k .index) .kind) k ≡ nextIn (storeInMEM trace s) k
-  unfolding standing storeInMEM
-  standing-next = next-by-lane (λ k. instruction trace (standing trace s k .index) .kind)
-
   abbrev at : Stage → ℕ
   at k = standing trace s k .index
 
   abbrev free : Stage → Bool
-  free k = freeAt (goes trace s) (occupied trace s) (storeInMEM trace s) k
+  free k = freeAt (goes trace s) (occupied trace s) (kindsIn trace s) k
 
   -- what the first sentence says of the instruction in a stage: in EX without its wait for a store's value, which never decides
   Said : Stage → Type 0
@@ -124,14 +120,14 @@ module _ (trace : Trace) (s : State) (o : Orderly trace s) where
   Frees : Stage → Type 0
   Frees k = willBeFree trace (placeOf s) k ≡ free k
 
-  moves-step : (k : Stage) → same k post ≡ false → Frees (nextIn (storeInMEM trace s) k) → Moves k
-  unfolding Moves Frees Said leaves
+  moves-step : (k : Stage) → same k post ≡ false → Frees (nextIn (isStore (kindsIn trace s k)) k) → Moves k
+  unfolding Moves Frees Said leaves kindsIn
   moves-step k n alike f =
       said k f
       ∙ ap₂ _and_
       (ap (λ (b : Bool). eqb (standing trace s k .count) 0 and b) (ready-by-slots trace s o k (at k) (standing-fetched k f)) ∙ sym (goes-filled k f))
-      (ap (willBeFree trace (placeOf s)) (standing-next k) ∙ alike)
-      ∙ sym (moves-at (goes trace s) (occupied trace s) (storeInMEM trace s) k n)
+      (subst Frees (sym (next-in (kindsIn trace s k) k)) alike)
+      ∙ sym (moves-at (goes trace s) (occupied trace s) (kindsIn trace s) k n)
 
   -- the test that the rules make of each instruction to see whether a stage will be free
   asks : Stage → ℕ → Bool
@@ -193,14 +189,14 @@ module _ (trace : Trace) (s : State) (o : Orderly trace s) where
   frees-step k w move =
       budget-never-decides trace (placeOf s) .freeing k
       ∙ ap (λ (t : Bool). same k post or t) (asked k w move (value (slot s k .filled)))
-      ∙ sym (free-at (goes trace s) (occupied trace s) (storeInMEM trace s) k)
+      ∙ sym (free-at (goes trace s) (occupied trace s) (kindsIn trace s) k)
 
   frees-post : Frees post
   unfolding Frees
   frees-post =
       budget-never-decides trace (placeOf s) .freeing post
       ∙ or-l _ _ refl
-      ∙ sym (free-at (goes trace s) (occupied trace s) (storeInMEM trace s) post ∙ or-l _ _ refl)
+      ∙ sym (free-at (goes trace s) (occupied trace s) (kindsIn trace s) post ∙ or-l _ _ refl)
 
   moves-ST : Moves ST
   unfolding nextIn
@@ -216,7 +212,7 @@ module _ (trace : Trace) (s : State) (o : Orderly trace s) where
 
   moves-MEM : Moves MEM
   unfolding nextIn
-  moves-MEM = moves-step MEM refl (frees-last (storeInMEM trace s))
+  moves-MEM = moves-step MEM refl (frees-last (isStore (kindsIn trace s MEM)))
 
   moves-EX : Moves EX
   unfolding nextIn

@@ -6,39 +6,47 @@ use mathlib.Core.Bool.{Bool, true, false, not}
 use mathlib.Core.Path.{_≡_, refl, sym, ap, subst, _∙_}
 use lib.ListN.{length}
 use borrow.Author.Tests.{lt-ltb, eq-eqb}
-use Rattle.machine.specs.Instruction.{Trace, instruction}
-use Rattle.machine.specs.Rules.{Stage, pre, IF, ID, EX, MEM, ST, WB, post, next, Place, Places, entry, moves, cycle}
+use Rattle.machine.specs.Instruction.{Kind, Trace, instruction}
+use Rattle.machine.specs.Rules.{Stage, pre, IF, ID, EX, MEM, ST, WB, post, next, same, isStore, Place, Places, entry, moves, cycle}
 use Rattle.machine.specs.State.{slot, holds, placeOf, stateOf, Orderly}
 use Rattle.machine.specs.Claims.{CycleKeepsOrderly, CycleGivesPlaces}
 use Rattle.machine.specs.declared.Slot.{Slot}
 use Rattle.machine.specs.declared.State.{State}
 use Rattle.machine.proofs.Numbers.{Tri, less, equal, more, tri}
 use Rattle.machine.proofs.Connectives.{clash, Value, passed, failed, value, and-l, and-r, and-both}
-use Rattle.machine.proofs.Stages.{inside}
+use Rattle.machine.proofs.Stages.{stage-same, inside}
 use Rattle.machine.proofs.Places.{state-agrees}
 use Rattle.machine.proofs.Spots.{Spot, waiting, held, left, spot, slot-inside, place-waiting, places-give-state}
-use Rattle.machine.proofs.Doing.{nextIn}
-use Rattle.machine.proofs.BySlots.{standing, storeInMEM, leaves, stageBefore, takes, arrives, newSlot, stepBySlots}
-use Rattle.machine.proofs.Moving.{standing-slot, standing-place, standing-next, moves-by-slots, waiting-stays, left-stays}
+use Rattle.machine.proofs.Doing.{nextIn, next-in}
+use Rattle.machine.proofs.BySlots.{standing, kindsIn, leaves, stageBefore, takes, arrives, newSlot, stepBySlots}
+use Rattle.machine.proofs.Moving.{standing-slot, standing-place, moves-by-slots, waiting-stays, left-stays}
 use Rattle.machine.proofs.Flow.{After, came, stayed, vacant, after-cycle, takes-next, leaves-filled, arrives-free, bit, fetched-after}
 use Rattle.machine.proofs.StepOrderly.{step-keeps-orderly}
 
--- what comes after a stage: a stage with a slot, which it leads to, or post
-data Onward (inMEM : Bool) (k : Stage) : Type 0 where
-  into : inside (nextIn inMEM k) ≡ true → stageBefore (nextIn inMEM k) ≡ k → takes inMEM (nextIn inMEM k) ≡ true → Onward inMEM k
-  out : nextIn inMEM k ≡ post → Onward inMEM k
+-- where a stage leads: to a stage with a slot, which it comes before, or to post
+data Leads (k to : Stage) : Type 0 where
+  into : inside to ≡ true → stageBefore to ≡ k → Leads k to
+  out : to ≡ post → Leads k to
 
-onward : (inMEM : Bool) (k : Stage) → Onward inMEM k
-unfolding nextIn stageBefore takes
-onward inMEM pre = into refl refl refl
-onward inMEM IF = into refl refl refl
-onward inMEM ID = into refl refl refl
-onward inMEM EX = into refl refl refl
-onward true MEM = into refl refl refl
-onward false MEM = into refl refl refl
-onward inMEM ST = out refl
-onward inMEM WB = out refl
-onward inMEM post = out refl
+leads : (lane : Bool) (k : Stage) → Leads k (nextIn lane k)
+unfolding nextIn stageBefore
+leads lane pre = into refl refl
+leads lane IF = into refl refl
+leads lane ID = into refl refl
+leads lane EX = into refl refl
+leads true MEM = into refl refl
+leads false MEM = into refl refl
+leads lane ST = out refl
+leads lane WB = out refl
+leads lane post = out refl
+
+onward : (kind : Kind) (k : Stage) → Leads k (next kind k)
+onward kind k = subst (Leads k) (sym (next-in kind k)) (leads (isStore kind) k)
+
+-- a stage takes what leads to it
+taken : (kinds : Stage → Kind) (k : Stage) → stageBefore (next (kinds k) k) ≡ k → takes kinds (next (kinds k) k) ≡ true
+taken kinds k b =
+    ap (λ (j : Stage). same (next (kinds j) j) (next (kinds k) k)) b ∙ stage-same (next (kinds k) k) (next (kinds k) k) refl
 
 -- the place of an instruction that has just entered a stage, and the place, one cycle on, of one that stays
 abbrev entering : Trace → ℕ → Stage → Place
@@ -63,13 +71,13 @@ module _ (trace : Trace) (s : State) (o : Orderly trace s) where
       (k : Stage) →
       leaves trace s k ≡ true →
       cycle trace (placeOf s) (standing trace s k .index)
-      ≡ entering trace (standing trace s k .index) (nextIn (storeInMEM trace s) k)
+      ≡ entering trace (standing trace s k .index) (next (kindsIn trace s k) k)
+  unfolding kindsIn
   goes-on k l =
       let f = leaves-filled trace s k l in
       cycle-moves trace (placeOf s) _ (moves-by-slots trace s o k f ∙ l)
       ∙ ap (entering trace (standing trace s k .index))
-      (ap (λ (p : Place). next (instruction trace (standing trace s k .index) .kind) (p .stage)) (standing-place trace s o k f)
-      ∙ standing-next trace s o k)
+      (ap (λ (p : Place). next (instruction trace (standing trace s k .index) .kind) (p .stage)) (standing-place trace s o k f))
 
   stays-on :
       (k : Stage) →
@@ -91,7 +99,7 @@ module _ (trace : Trace) (s : State) (o : Orderly trace s) where
   unfolding arrives
   slot-place k w (came a) f =
       goes-on (stageBefore k) (and-l _ _ a)
-      ∙ ap (entering trace (standing trace s (stageBefore k) .index)) (takes-next (storeInMEM trace s) k (and-r _ _ a))
+      ∙ ap (entering trace (standing trace s (stageBefore k) .index)) (takes-next (kindsIn trace s) k (and-r _ _ a))
   slot-place k w (stayed a g l) f =
       let q = standing-slot trace s k w in
       subst (λ (r : Slot). cycle trace (placeOf s) (r .index) ≡ record { stage = k; count = r .count - 1 }) q
@@ -136,14 +144,14 @@ module _ (trace : Trace) (s : State) (o : Orderly trace s) where
       (leaves trace s k ≡ false → inside k ≡ true) →
       ((to : Stage) → holds (slot (stepBySlots trace s) to) (standing trace s k .index) ≡ false) →
       Value (leaves trace s k) →
-      Onward (storeInMEM trace s) k →
+      Leads k (next (kindsIn trace s k) k) →
       cycle trace (placeOf s) (standing trace s k .index) ≡ record { stage = post; count = 0 }
   unfolding arrives entry
-  gone k f stay none (passed l) (into w b t) =
-      let to = nextIn (storeInMEM trace s) k in
+  gone k f stay none (passed l) (into w b) =
+      let to = next (kindsIn trace s k) k in
       clash
       (subst (λ (k : Stage). holds (newSlot trace s to) (standing trace s k .index) ≡ true) b
-      (comes-in to (and-both _ _ (subst (λ (k : Stage). leaves trace s k ≡ true) (sym b) l) t) (after-cycle trace s to)))
+      (comes-in to (and-both _ _ (subst (λ (k : Stage). leaves trace s k ≡ true) (sym b) l) (taken (kindsIn trace s) k b)) (after-cycle trace s to)))
       (subst (λ (r : Slot). holds r (standing trace s k .index) ≡ false) (slot-after to w) (none to))
   gone k f stay none (passed l) (out e) =
       goes-on k l ∙ ap (entering trace (standing trace s k .index)) e
@@ -183,7 +191,7 @@ module _ (trace : Trace) (s : State) (o : Orderly trace s) where
       (gone k f stay
       (λ to. subst (λ (i : ℕ). holds (slot (stepBySlots trace s) to) i ≡ false) (sym e) (none to))
       (value (leaves trace s k))
-      (onward (storeInMEM trace s) k))
+      (onward (kindsIn trace s k) k))
 
   in-post :
       (i : ℕ) →

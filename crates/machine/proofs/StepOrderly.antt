@@ -15,9 +15,9 @@ use Rattle.machine.specs.declared.State.{State}
 use Rattle.machine.proofs.Connectives.{clash, Value, passed, failed, value, and-l, and-r, and-both, and-true, or-failed, and-failed-r, or-l}
 use Rattle.machine.proofs.Stages.{eight, inside}
 use Rattle.machine.proofs.Hazards.{waitsFor, asksFor}
-use Rattle.machine.proofs.Doing.{nextIn}
-use Rattle.machine.proofs.BySlots.{standing, holdsBack, heldBack, goes, occupied, storeInMEM, moves-at, free-at, leaves, stageBefore, takes, arrives, stepBySlots}
-use Rattle.machine.proofs.Flow.{After, came, stayed, vacant, after-cycle, leaves-filled, bit, fetched-after, younger-after}
+use Rattle.machine.proofs.Doing.{nextIn, next-in, into-ST, into-WB}
+use Rattle.machine.proofs.BySlots.{standing, holdsBack, heldBack, goes, occupied, kindsIn, moves-at, free-at, freeAt, leaves, stageBefore, takes, arrives, stepBySlots}
+use Rattle.machine.proofs.Flow.{After, came, stayed, vacant, after-cycle, leaves-filled, bit, fetched-after, younger-after, takes-IF, takes-ID, takes-EX, takes-MEM}
 
 module _ (trace : Trace) (s : State) (o : Orderly trace s) where
   -- the instruction in the stage before k is the youngest that no slot before that stage holds
@@ -73,7 +73,7 @@ module _ (trace : Trace) (s : State) (o : Orderly trace s) where
   turn-after k w off t (vacant a e) f = clash f refl
 
   -- if nothing comes into a slot, the stage that leads to it is not left
-  shut : (k : Stage) → takes (storeInMEM trace s) k ≡ true → arrives trace s k ≡ false → leaves trace s (stageBefore k) ≡ false
+  shut : (k : Stage) → takes (kindsIn trace s) k ≡ true → arrives trace s k ≡ false → leaves trace s (stageBefore k) ≡ false
   unfolding arrives
   shut k t a = sym (and-true _) ∙ ap (λ (b : Bool). leaves trace s (stageBefore k) and b) (sym t) ∙ a
 
@@ -83,9 +83,9 @@ module _ (trace : Trace) (s : State) (o : Orderly trace s) where
   free-WB k held = and-failed-r _ _ (and-failed-r _ _ refl)
 
   leaves-WB : s .WB .filled ≡ true → leaves trace s WB ≡ true
-  unfolding leaves goes occupied standing heldBack entry nextIn
+  unfolding leaves goes occupied standing heldBack entry kindsIn nextIn
   leaves-WB f =
-      moves-at (goes trace s) (occupied trace s) (storeInMEM trace s) WB refl
+      moves-at (goes trace s) (occupied trace s) (kindsIn trace s) WB refl
       ∙ and-both _ _
       (and-both _ _
       (and-both _ _ f (eq-eqb (s .WB .count) 0 (let c = o .counted WB .within f in omega arith)))
@@ -97,7 +97,9 @@ module _ (trace : Trace) (s : State) (o : Orderly trace s) where
       (free-WB MEM _))
       (free-WB ST _))
       (free-WB WB _))))
-      (free-at (goes trace s) (occupied trace s) (storeInMEM trace s) post ∙ or-l _ _ refl)
+      (ap (freeAt (goes trace s) (occupied trace s) (kindsIn trace s)) (next-in (kindsIn trace s WB) WB)
+      ∙ free-at (goes trace s) (occupied trace s) (kindsIn trace s) post
+      ∙ or-l _ _ refl)
 
   in-ST : {new : Slot} → After trace s ST new → new .filled ≡ true → new .index + younger (stepBySlots trace s) ST < stepBySlots trace s .fetched
   in-ST (came a) f = let e = came-turn ST refl a in omega arith
@@ -109,14 +111,14 @@ module _ (trace : Trace) (s : State) (o : Orderly trace s) where
   in-ST (vacant a e) f = clash f refl
 
   a-store : {new : Slot} → After trace s ST new → new .filled ≡ true → isStore (instruction trace (new .index) .kind) ≡ true
-  unfolding arrives takes storeInMEM standing stageBefore
-  a-store (came a) f = and-r _ _ a
+  unfolding arrives kindsIn standing stageBefore
+  a-store (came a) f = sym (into-ST (kindsIn trace s MEM)) ∙ and-r _ _ a
   a-store (stayed a g l) f = o .aStore g
   a-store (vacant a e) f = clash f refl
 
   no-store : {new : Slot} → After trace s WB new → new .filled ≡ true → isStore (instruction trace (new .index) .kind) ≡ false
-  unfolding arrives takes storeInMEM standing stageBefore
-  no-store (came a) f = not-true _ (and-r _ _ a)
+  unfolding arrives kindsIn standing stageBefore
+  no-store (came a) f = not-true _ (sym (into-WB (kindsIn trace s MEM)) ∙ and-r _ _ a)
   no-store (stayed a g l) f = o .noStore g
   no-store (vacant a e) f = clash f refl
 
@@ -147,14 +149,14 @@ module _ (trace : Trace) (s : State) (o : Orderly trace s) where
           omega arith
 
   pub step-keeps-orderly : Orderly trace (stepBySlots trace s)
-  unfolding stepBySlots takes
+  unfolding stepBySlots
   step-keeps-orderly =
       record {
         fetched = within-trace;
-        inIF = record { index = turn-after IF refl (λ a g l. shut IF refl a) (o .inIF) (after-cycle trace s IF) };
-        inID = record { index = turn-after ID refl (λ a g l. shut ID refl a) (o .inID) (after-cycle trace s ID) };
-        inEX = record { index = turn-after EX refl (λ a g l. shut EX refl a) (o .inEX) (after-cycle trace s EX) };
-        inMEM = record { index = turn-after MEM refl (λ a g l. shut MEM refl a) (o .inMEM) (after-cycle trace s MEM) };
+        inIF = record { index = turn-after IF refl (λ a g l. shut IF (takes-IF (kindsIn trace s)) a) (o .inIF) (after-cycle trace s IF) };
+        inID = record { index = turn-after ID refl (λ a g l. shut ID (takes-ID (kindsIn trace s)) a) (o .inID) (after-cycle trace s ID) };
+        inEX = record { index = turn-after EX refl (λ a g l. shut EX (takes-EX (kindsIn trace s)) a) (o .inEX) (after-cycle trace s EX) };
+        inMEM = record { index = turn-after MEM refl (λ a g l. shut MEM (takes-MEM (kindsIn trace s)) a) (o .inMEM) (after-cycle trace s MEM) };
         inWB = record { index = turn-after WB refl (λ a g l. clash (leaves-WB g) l) (o .inWB) (after-cycle trace s WB) };
         noStore = no-store (after-cycle trace s WB);
         inST = in-ST (after-cycle trace s ST);

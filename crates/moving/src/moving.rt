@@ -6,7 +6,7 @@ ghost use mathlib.Core.Bool.{false, not, _||_};
 ghost use Prim.Native.Nat.{_≤_};
 ghost use Rattle.machine.specs.Test.{_and_};
 ghost use Rattle.machine.specs.Rules as Rules;
-ghost use Rattle.machine.specs.Rules.{MEM, post, next, same, isStore};
+ghost use Rattle.machine.specs.Rules.{post, next, same};
 ghost use Rattle.machine.specs.Named.{kindNamed, stageNamed};
 ghost use Rattle.machine.proofs.BySlots.{movesAt, freeAt, arrivesIn};
 ghost use Rattle.machine.proofs.Flow.{bit};
@@ -102,7 +102,7 @@ fn kind_in(kinds: u32, stage: Stage) -> Kind
 // `going` says which instructions have count 0 and are ready, `full` which stages are filled.
 fn moves(going: u32, full: u32, kinds: u32, stage: Stage) -> bool
     requires { ⌜ same (stageNamed stage) post ≡ false ⌝ }
-    ensures { λ r. ⌜ r ≡ movesAt (bits going) (bits full) (isStore (kindIn kinds MEM)) (stageNamed stage) ⌝ }
+    ensures { λ r. ⌜ r ≡ movesAt (bits going) (bits full) (kindIn kinds) (stageNamed stage) ⌝ }
 {
     if bit(going, stage) {
         let to = next(kind_in(kinds, stage), stage);
@@ -112,7 +112,7 @@ fn moves(going: u32, full: u32, kinds: u32, stage: Stage) -> bool
 }
 
 fn will_be_free(going: u32, full: u32, kinds: u32, stage: Stage) -> bool
-    ensures { λ r. ⌜ r ≡ freeAt (bits going) (bits full) (isStore (kindIn kinds MEM)) (stageNamed stage) ⌝ }
+    ensures { λ r. ⌜ r ≡ freeAt (bits going) (bits full) (kindIn kinds) (stageNamed stage) ⌝ }
 {
     if same(stage, Stage::Post) {
         return true;
@@ -124,7 +124,7 @@ fn will_be_free(going: u32, full: u32, kinds: u32, stage: Stage) -> bool
 }
 
 pub fn leaving(going: u32, full: u32, kinds: u32) -> Bits
-    ensures { λ r. ⌜ r ≡ bitsOf (movesAt (bits going) (bits full) (isStore (kindIn kinds MEM))) ⌝ }
+    ensures { λ r. ⌜ r ≡ bitsOf (movesAt (bits going) (bits full) (kindIn kinds)) ⌝ }
 {
     Bits {
         pre: moves(going, full, kinds, Stage::Pre),
@@ -149,7 +149,7 @@ fn arrives(leaves: bool, kinds: u32, from: Stage, to: Stage) -> bool
 
 // Into which stages an instruction comes, of those that can follow each other; nothing comes into pre.
 pub fn arriving(moving: Bits, kinds: u32) -> Bits
-    ensures { λ r. ⌜ r ≡ bitsOf (arrivesIn (bitOf moving) (isStore (kindIn kinds MEM))) ⌝ }
+    ensures { λ r. ⌜ r ≡ bitsOf (arrivesIn (bitOf moving) (kindIn kinds)) ⌝ }
 {
     Bits {
         pre: false,

@@ -21,7 +21,8 @@ pendingIn trace s k = pendingSlot trace k (slot s k)
 abbrev pub opens : Slot → Bool
 opens held = not (held .filled) or eqb (held .count) 0
 
--- the same for the slot after a stage; after MEM and later stages no slot is tested
+-- The same for the slot after a stage, named up to EX, where it is the same for all kinds; after MEM and later stages no slot is tested. It spares the
+-- look-up of who holds whom back, and decides nothing: an instruction moves only into a slot that will be free.
 abbrev pub opensAfter : State → Stage → Bool
 opensAfter s pre = opens (s .IF)
 opensAfter s IF = opens (s .ID)

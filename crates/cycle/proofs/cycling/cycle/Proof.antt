@@ -1,4 +1,5 @@
 -- `cycle` meets its contract: the masks say who moves, and from that come the new slots; where no instruction starts, none moves.
+use mathlib.Core.Bool.{true}
 use mathlib.Core.Path.{_≡_, sym, ap, _∙_}
 use borrow.Author.Needs.{needs}
 use Rattle.machine.proofs.Connectives.{and-failed-l}
@@ -7,13 +8,14 @@ use Prim.Native.Nat.{ℕ}
 use Rattle.machine.specs.Test.{_and_}
 use Rattle.machine.specs.Hits.{withHits}
 use Rattle.machine.specs.declared.State.{State}
-use Rattle.machine.proofs.BySlots.{storeInMEM, leaves}
+use Rattle.machine.proofs.BySlots.{standing, kindsIn, leaves}
 use Rattle.machine.proofs.HitSlots.{goes-alike}
-use Rattle.machine.specs.Rules.{MEM, isStore}
-use Rattle.machine.specs.Instruction.{Instruction, Trace}
+use Rattle.machine.specs.Rules.{Stage}
+use Rattle.machine.specs.Instruction.{Trace}
 use Rattle.moving.specs.declared.moving.Bits.{Bits}
 use Rattle.moving.specs.Inner.{bitOf, bitsOf, kindIn}
 use Rattle.starting.specs.Inner.{starts, opensAfter}
+use Rattle.cycle.proofs.Read.{read-kind}
 use Rattle.cycle.proofs.Starts.{leaving-is, arriving-is, standstill-is, none-set}
 use Rattle.cycle.proofs.cycling.cycle.Statement.{statement}
 use Rattle.cycle.proofs.cycling.cycle.Tie as tie
@@ -64,21 +66,20 @@ slots-after-requires : tie.Need-slots-after-requires
 slots-after-requires c κs = search needs
 
 returns-2 : tie.Need-returns-2
-unfolding storeInMEM
 returns-2 c =
     λ trace h e.
     let c3 = c .before .before .before in
     let c6 = c3 .before .before .before in
     let c9 = c6 .before .before .before in
     let s = c9 .before .args .s in
-    let store : isStore (kindIn (c6 .kinds-read .result) MEM) ≡ storeInMEM trace s = ap isStore (c6 .kinds-read .ensures MEM) ∙ ap (λ (i : Instruction). isStore (i .kind)) (h .MEM) in
+    let kinds : (k : Stage) → standing trace s k .filled ≡ true → kindIn (c6 .kinds-read .result) k ≡ kindsIn trace s k =
+    λ k f. c6 .kinds-read .ensures k ∙ read-kind h k f in
     let moving : c .before .before .leaving .result ≡ bitsOf (leaves trace s) =
     c .before .before .leaving .ensures
-    ∙ leaving-is trace s
+    ∙ leaving-is trace s kinds
     (c3 .before .before .mask .ensures ∙ ap (λ (b : Bits). maskOf (bitOf b)) (c9 .starts .ensures trace h e))
-    (c3 .mask2 .ensures ∙ ap (λ (b : Bits). maskOf (bitOf b)) (c3 .before .full .ensures trace e))
-    store in
-    c .slots-after .ensures trace h moving (c .before .arriving .ensures ∙ arriving-is trace s moving store)
+    (c3 .mask2 .ensures ∙ ap (λ (b : Bits). maskOf (bitOf b)) (c3 .before .full .ensures trace e)) in
+    c .slots-after .ensures trace h moving (c .before .arriving .ensures ∙ arriving-is trace s kinds moving)
 
 pub cycle-spec : {M : Type 1} → statement M
 cycle-spec =

@@ -6,8 +6,7 @@ use borrow.Fn.Kinds.{In}
 use borrow.Fn.PlainCycle.{Measures, is, falls, and}
 use Rattle.machine.specs.Instruction.{Kind}
 use Rattle.machine.specs.Named.{kindNamed, stageNamed}
-use Rattle.machine.specs.Rules.{MEM, isStore, next, budget}
-use Rattle.machine.proofs.Doing.{next-by-lane}
+use Rattle.machine.specs.Rules.{next, budget}
 use Rattle.machine.proofs.BySlots.{freeAt}
 use Rattle.machine.proofs.Masks.{bits, moves-on, moves-off, free-post, free-filled, free-empty}
 use Rattle.moving.specs.Inner.{kindIn}
@@ -114,13 +113,10 @@ moves-returns : (t : ℕ) → moves-lts.Need-returns (
 moves-returns t c =
     let a = c .before .before .before .before .before .args in
     let k = stageNamed (a .stage) in
-    let lane = isStore (kindIn (a .kinds) MEM) in
     c .will-be-free .ensures
-    ∙ ap (freeAt (bits (a .going)) (bits (a .full)) lane)
-    (c .before .next .ensures
-    ∙ ap (λ (kind : Kind). next kind k) (c .before .before .kind-in .ensures)
-    ∙ next-by-lane (kindIn (a .kinds)) k)
-    ∙ sym (moves-on (a .going) (a .full) lane k (c .before .before .before .before .before .pre .1)
+    ∙ ap (freeAt (bits (a .going)) (bits (a .full)) (kindIn (a .kinds)))
+    (c .before .next .ensures ∙ ap (λ (kind : Kind). next kind k) (c .before .before .kind-in .ensures))
+    ∙ sym (moves-on (a .going) (a .full) (kindIn (a .kinds)) k (c .before .before .before .before .before .pre .1)
     (sym (c .before .before .before .before .bit .ensures) ∙ c .before .before .before .if1 .taken))
 
 moves-returns-2 : (t : ℕ) → moves-lts.Need-returns-2 (
@@ -136,7 +132,7 @@ moves-returns-2 : (t : ℕ) → moves-lts.Need-returns-2 (
 moves-returns-2 t c =
     let start = c .before .before in
     let a = start .args in
-    sym (moves-off (a .going) (a .full) (isStore (kindIn (a .kinds) MEM)) (stageNamed (a .stage)) (start .pre .1) (sym (c .before .bit .ensures) ∙ c .if1 .left))
+    sym (moves-off (a .going) (a .full) (kindIn (a .kinds)) (stageNamed (a .stage)) (start .pre .1) (sym (c .before .bit .ensures) ∙ c .if1 .left))
 
 will-be-free-same-requires : (t : ℕ) → will-be-free-lts.Need-same-requires (
   same-reads.Asked,
@@ -158,7 +154,7 @@ will-be-free-returns : (t : ℕ) → will-be-free-lts.Need-returns (
 ) (will-be-free-at t) will-be-free.Post
 will-be-free-returns t c =
     let a = c .before .before .args in
-    sym (free-post (a .going) (a .full) (isStore (kindIn (a .kinds) MEM)) (stageNamed (a .stage)) (sym (c .before .same .ensures) ∙ c .if1 .taken))
+    sym (free-post (a .going) (a .full) (kindIn (a .kinds)) (stageNamed (a .stage)) (sym (c .before .same .ensures) ∙ c .if1 .taken))
 
 will-be-free-bit-requires : (t : ℕ) → will-be-free-lts.Need-bit-requires (
   same-reads.Asked,
@@ -193,7 +189,7 @@ will-be-free-returns-2 : (t : ℕ) → will-be-free-lts.Need-returns-2 (
 will-be-free-returns-2 t c =
     let a = c .before .before .before .before .before .args in
     c .moves .ensures
-    ∙ sym (free-filled (a .going) (a .full) (isStore (kindIn (a .kinds) MEM)) (stageNamed (a .stage))
+    ∙ sym (free-filled (a .going) (a .full) (kindIn (a .kinds)) (stageNamed (a .stage))
     (sym (c .before .before .before .before .same .ensures) ∙ c .before .before .before .if1 .left)
     (sym (c .before .before .bit .ensures) ∙ c .before .if2 .taken))
 
@@ -207,7 +203,7 @@ will-be-free-returns-3 : (t : ℕ) → will-be-free-lts.Need-returns-3 (
 ) (will-be-free-at t) will-be-free.Post
 will-be-free-returns-3 t c =
     let a = c .before .before .before .before .args in
-    sym (free-empty (a .going) (a .full) (isStore (kindIn (a .kinds) MEM)) (stageNamed (a .stage))
+    sym (free-empty (a .going) (a .full) (kindIn (a .kinds)) (stageNamed (a .stage))
     (sym (c .before .before .before .same .ensures) ∙ c .before .before .if1 .left)
     (sym (c .before .bit .ensures) ∙ c .if2 .left))
 

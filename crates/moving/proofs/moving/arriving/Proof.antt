@@ -1,11 +1,7 @@
 -- `arriving` meets its contract: stage by stage, from what leaves the stage before.
-use mathlib.Core.Bool.{Bool}
-use mathlib.Core.Path.{refl, sym, ap, _∙_}
-use Rattle.machine.specs.Test.{_and_}
-use Rattle.machine.specs.Rules.{IF, ID, EX, MEM, ST, WB, isStore}
+use mathlib.Core.Path.{refl, sym}
 use Rattle.machine.proofs.Connectives.{and-failed-l}
 use Rattle.machine.proofs.BySlots.{stageBefore, arrivesIn}
-use Rattle.machine.proofs.Flow.{takes-by-next}
 use Rattle.moving.specs.Inner.{bitOf, kindIn}
 use Rattle.moving.proofs.Seven.{bits-are}
 use Rattle.moving.proofs.moving.arriving.Statement.{statement}
@@ -35,15 +31,14 @@ returns c =
     let c2 = c .before .before in
     let c4 = c2 .before .before in
     let a = c4 .before .before .args in
-    let goes = takes-by-next (kindIn (a .kinds)) in
-    bits-are (arrivesIn (bitOf (a .moving)) (isStore (kindIn (a .kinds) MEM)))
+    bits-are (arrivesIn (bitOf (a .moving)) (kindIn (a .kinds)))
     (sym (and-failed-l _ _ refl))
-    (c4 .before .arrives .ensures ∙ ap (λ (b : Bool). a .moving .pre and b) (goes IF refl))
-    (c4 .arrives2 .ensures ∙ ap (λ (b : Bool). a .moving .IF and b) (goes ID refl))
-    (c2 .before .arrives3 .ensures ∙ ap (λ (b : Bool). a .moving .ID and b) (goes EX refl))
-    (c2 .arrives4 .ensures ∙ ap (λ (b : Bool). a .moving .EX and b) (goes MEM refl))
-    (c .before .arrives5 .ensures ∙ ap (λ (b : Bool). a .moving .MEM and b) (goes ST refl))
-    (c .arrives6 .ensures ∙ ap (λ (b : Bool). a .moving .MEM and b) (goes WB refl))
+    (c4 .before .arrives .ensures)
+    (c4 .arrives2 .ensures)
+    (c2 .before .arrives3 .ensures)
+    (c2 .arrives4 .ensures)
+    (c .before .arrives5 .ensures)
+    (c .arrives6 .ensures)
 
 pub arriving-spec : {M : Type 1} → statement M
 arriving-spec =

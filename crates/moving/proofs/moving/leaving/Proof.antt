@@ -1,6 +1,5 @@
 -- `leaving` meets its contract: a call of `moves` for each stage.
 use mathlib.Core.Path.{refl}
-use Rattle.machine.specs.Rules.{MEM, isStore}
 use Rattle.machine.proofs.Masks.{bits}
 use Rattle.machine.proofs.BySlots.{movesAt}
 use Rattle.moving.specs.Inner.{kindIn}
@@ -32,7 +31,7 @@ moves-requires-7 c κs = refl
 returns : tie.Need-returns
 returns c =
     let a = c .before .before .before .before .before .before .before .args in
-    bits-are (movesAt (bits (a .going)) (bits (a .full)) (isStore (kindIn (a .kinds) MEM)))
+    bits-are (movesAt (bits (a .going)) (bits (a .full)) (kindIn (a .kinds)))
     (c .before .before .before .before .before .before .moves .ensures)
     (c .before .before .before .before .before .moves2 .ensures)
     (c .before .before .before .before .moves3 .ensures)
