@@ -52,6 +52,7 @@ pub fn mask(b: Bits) -> u32
         + 64 * digit(b.WB)
 }
 
+// The kinds in the stages as one number.
 pub fn digits(pre: Kind, IF: Kind, ID: Kind, EX: Kind, MEM: Kind, ST: Kind, WB: Kind) -> u32
     ensures { λ r. ⌜
         (kindIn r Rules.pre ≡ kindNamed pre)
@@ -84,6 +85,7 @@ fn bit(mask: u32, stage: Stage) -> bool
     (mask >> number(stage)) % 2 == 1
 }
 
+// Nothing stands in post.
 fn kind_in(kinds: u32, stage: Stage) -> Kind
     ensures { λ r. ⌜ kindNamed r ≡ kindIn kinds (stageNamed stage) ⌝ }
 {
