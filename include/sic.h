@@ -81,8 +81,8 @@ typedef struct {
     uint32_t length;
 } sic_written;
 
-/* Kinds: 0 plain, 1 load, 2 store, 3 conditional branch. Flags: 0 hit, 1 miss, 2 unknown. Of a store, source2 is the value
- * to be stored, for which it waits later than for source1. */
+/* Kinds: 0 plain, 1 load, 2 store, 3 conditional branch, 4 jump. Flags: 0 hit, 1 miss, 2 unknown. Of a store, source2 is the
+ * value to be stored, for which it waits later than for source1. */
 typedef struct {
     uint32_t kind, fetch, access, source1, source2, target, execution, fetch_latency, data_latency;
 } sic_fields;

@@ -1,7 +1,7 @@
 # What tools/assemble and tools/make-cases write of an instruction's text and of a job file's table. The tool says
 # how it writes a byte, `byte(n)`, and what it does on an error, `fail(what)`.
 BEGIN {
-    kinds["plain"] = 0; kinds["load"] = 1; kinds["store"] = 2; kinds["branch"] = 3
+    kinds["plain"] = 0; kinds["load"] = 1; kinds["store"] = 2; kinds["branch"] = 3; kinds["jump"] = 4
     flags["hit"] = 0; flags["miss"] = 1; flags["unknown"] = 2
     # the fields by name, and the most that fits each
     most["kind"] = most["first"] = most["second"] = most["target"] = most["execute"] = 255

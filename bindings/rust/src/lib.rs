@@ -90,6 +90,7 @@ impl Default for State {
 #[derive(Clone, Copy, Debug, PartialEq, Eq)]
 #[repr(C)]
 pub struct Fields {
+    /// 0 plain, 1 load, 2 store, 3 conditional branch, 4 jump.
     pub kind: u32,
     pub fetch: u32,
     pub access: u32,

@@ -68,6 +68,58 @@ fn a_stores_value_is_needed_late() {
     }
 }
 
+/// A jump "holds back later fetches as a branch does, until it stands at (EX, 0), and goes on through WB": document 02, F-6. Nothing
+/// waits for its target.
+#[test]
+fn a_jump_holds_back_fetches() {
+    let into = |target, i: Instruction| Instruction { target, ..i };
+    let from = |source1, source2, i: Instruction| Instruction { source1, source2, ..i };
+    let late = |latency| Instruction { fetch: MISS, fetch_latency: latency, ..plain() };
+    let jump = Instruction { kind: JUMP, ..plain() };
+    let slow = Instruction { execution: 2, ..jump };
+    let (hit, load, store) = (memory(LOAD, HIT, 1), memory(LOAD, MISS, 10), memory(STORE, MISS, 10));
+    let cases: [(&str, Vec<Instruction>, u32); 16] = [
+        ("alone", vec![into(31, jump)], 6),
+        ("a plain one before it", vec![plain(), jump], 7),
+        ("a plain one behind it", vec![jump, plain()], 9),
+        ("with execution latency 2", vec![slow, plain()], 11),
+        ("two jumps and a plain one", vec![jump, jump, plain()], 12),
+        ("its target is read", vec![into(5, jump), from(5, 0, plain())], 9),
+        ("a missed fetch behind it", vec![jump, late(10)], 19),
+        ("a store hit behind it", vec![jump, memory(STORE, HIT, 1)], 9),
+        ("a missed store behind it", vec![jump, store], 18),
+        ("a missed store before it", vec![store, jump, plain()], 15),
+        ("a missed store before it, a missed fetch behind it", vec![store, jump, late(1)], 21),
+        ("it reads a load", vec![into(1, hit), from(1, 0, jump)], 8),
+        ("it reads a load, and a plain one is behind it", vec![into(1, hit), from(1, 0, jump), plain()], 11),
+        ("its second source is a missed load", vec![into(1, load), from(0, 1, jump)], 18),
+        ("a load and what needs it behind it", vec![jump, into(1, load), from(1, 0, plain())], 21),
+        ("its target is a load's too", vec![into(1, load), into(1, jump), from(1, 0, plain())], 18),
+    ];
+    for (name, trace, time) in cases {
+        assert_eq!(sic::finish(&encode(&trace), 0), Ok(time), "{name}");
+        assert_eq!(finish(&trace, 0), time, "{name}");
+    }
+}
+
+/// "Kind 4, a jump, has data bits and data latency 0 and may have a target": document 02, F-6. There is no kind 5, and a branch has no
+/// target.
+#[test]
+fn records_of_jumps() {
+    let jump = Instruction { kind: JUMP, ..plain() };
+    let target = |target| Instruction { target, ..jump };
+    let good = [jump, target(1), target(31), Instruction { source1: 31, source2: 31, execution: 255, fetch: UNKNOWN, ..jump }];
+    let access = |access| Instruction { access, ..jump };
+    let branch = Instruction { kind: BRANCH, target: 1, ..plain() };
+    let bad = [target(32), access(MISS), access(UNKNOWN), Instruction { data_latency: 1, ..jump }, Instruction { kind: 5, ..plain() }, branch];
+    for i in good {
+        assert_eq!((number(sic::View::new(&i.bytes())), body_refusal(&i.bytes())), (0, 0), "{i:?}");
+    }
+    for i in bad {
+        assert_eq!((number(sic::View::new(&i.bytes())), body_refusal(&i.bytes())), (8, 8), "{i:?}");
+    }
+}
+
 #[test]
 fn margins_and_limits_of_b() {
     let b = encode(&[plain()]);
@@ -87,8 +139,9 @@ fn bus_time(trace: &[Instruction], wait: u16) -> Result<(u32, u32), u32> {
 /// Every access that document 02 counts, one at a time: fetches of each kind, and the data accesses of loads and stores.
 fn one_access(flag: u8, latency: u16) -> Vec<Instruction> {
     let fetch = |i: Instruction| Instruction { fetch: flag, fetch_latency: latency, ..i };
-    let each = [plain(), memory(LOAD, HIT, 1), memory(STORE, HIT, 1), Instruction { kind: BRANCH, ..plain() }];
-    each.map(fetch).into_iter().chain([memory(LOAD, flag, latency), memory(STORE, flag, latency)]).collect()
+    let others = [PLAIN, BRANCH, JUMP].map(|kind| Instruction { kind, ..plain() });
+    let each = others.into_iter().chain([LOAD, STORE].map(|kind| memory(kind, HIT, 1)));
+    each.map(fetch).chain([memory(LOAD, flag, latency), memory(STORE, flag, latency)]).collect()
 }
 
 #[test]
@@ -134,7 +187,7 @@ fn bus_times_refuse_10_then_8_then_15() {
     let long = Instruction { fetch: MISS, fetch_latency: 65535, ..plain() };
     let mut body = encode(&[long, plain()]);
     assert_eq!(number(sic::bus_time(&body, 1, 0)), 15);
-    body[10] = 4;
+    body[10] = 5;
     assert_eq!(number(sic::bus_time(&body, 1, 0)), 8);
     body.pop();
     assert_eq!(number(sic::bus_time(&body, 1, 0)), 10);
@@ -285,6 +338,23 @@ fn a_state_is_judged_by_the_cycles_of_a_hit() {
     }
 }
 
+/// A jump stands in every slot but ST, which holds stores, and has a count in EX alone, where its fetch hits.
+#[test]
+fn a_state_holds_a_jump() {
+    let body = encode(&[Instruction { kind: JUMP, target: 1, execution: 2, ..plain() }]);
+    let held = |count| sic::Slot { filled: true, index: 0, count };
+    let fetched = State { fetched: 1, ..State::start() };
+    for h in [0, 15] {
+        assert_eq!(stepped(&body, State { EX: held(2), ..fetched }, h), Ok(State { EX: held(1), ..fetched }), "hits of {h}");
+        assert_eq!(stepped(&body, State { EX: held(0), ..fetched }, h), Ok(State { MEM: held(0), ..fetched }), "hits of {h}");
+        assert_eq!(stepped(&body, State { MEM: held(0), ..fetched }, h), Ok(State { WB: held(0), ..fetched }), "hits of {h}");
+        assert_eq!(stepped(&body, State { WB: held(0), ..fetched }, h), Ok(fetched), "hits of {h}");
+        for state in [State { EX: held(3), ..fetched }, State { MEM: held(1), ..fetched }, State { ST: held(0), ..fetched }] {
+            assert_eq!(stepped(&body, state, h), Err(12), "{state:?}, hits of {h}");
+        }
+    }
+}
+
 /// "h above 15, or a load or store whose data latency is not above h", whatever its flag, wherever it stands.
 #[test]
 fn hits_as_long_as_misses() {
@@ -302,8 +372,8 @@ fn hits_as_long_as_misses() {
         refuse(&encode(&[memory(kind, flag, 1)]), 0, 0, settled);
         refuse(&encode(&[memory(kind, flag, 65535)]), 16, 17, 17);
     }
-    let branch = Instruction { kind: BRANCH, ..plain() };
-    for body in [encode(&[]), encode(&[plain(), branch])] {
+    let others = [PLAIN, BRANCH, JUMP].map(|kind| Instruction { kind, ..plain() });
+    for body in [encode(&[]), encode(&others)] {
         refuse(&body, 15, 0, 0);
         refuse(&body, 16, 17, 17);
         refuse(&body, u32::MAX, 17, 17);
@@ -315,7 +385,7 @@ fn hits_as_long_as_misses() {
 fn long_hits_are_refused_after_8_and_before_the_rest() {
     let mut body = encode(&[memory(LOAD, UNKNOWN, 3), plain()]);
     let state = State { fetched: 3, ..State::start() };
-    body[10] = 4;
+    body[10] = 5;
     assert_eq!((stepped(&body, state, 3), number(sic::bus_time(&body, 65535, 3))), (Err(8), 8));
     body[10] = 0;
     assert_eq!((stepped(&body, state, 3), number(sic::bus_time(&body, 65535, 3))), (Err(17), 17));
@@ -342,7 +412,7 @@ fn long_hits_in_files() {
         assert_eq!(refused(&file, 2), ([16, 16, 0, 0], 0));
         assert_eq!(refused(&file, 3), ([17; 4], 17));
         assert_eq!(refused(&file, 16), ([17; 4], 17));
-        file[20] = 4;
+        file[20] = 5;
         assert_eq!(refused(&file, 16), ([8; 4], 8));
     }
     assert_eq!(worst_times(&[0, 0], 0, 15), (Ok(0), vec![]));
@@ -372,7 +442,7 @@ fn refusals_of_bodies() {
     let good = encode(&[plain(), memory(LOAD, MISS, 3)]);
     let unknown = encode(&[memory(LOAD, UNKNOWN, 3)]);
     let mut broken = [&unknown[..], &good].concat();
-    broken[10] = 4;
+    broken[10] = 5;
     let long = vec![0; 40970];
     for (body, checked, settled) in [(&good, 0, 0), (&unknown, 0, 11), (&broken, 8, 8), (&good[..19].to_vec(), 10, 10), (&long, 10, 10)] {
         assert_eq!(number(sic::View::new(body)), checked);
@@ -442,7 +512,7 @@ fn files_at_their_borders() {
     assert_eq!(number(sic::open(&[0, 0, 0], 0)), 7);
     assert_eq!(number(sic::open(&[0, 0], 0)), 9);
     let mut broken = file.clone();
-    broken[20] = 4;
+    broken[20] = 5;
     assert_eq!(number(sic::open(&broken, 9)), 8);
 }
 

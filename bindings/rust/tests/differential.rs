@@ -19,9 +19,15 @@ impl Dice {
         self.below(numbers) as u32
     }
 
+    /// Branches and jumps are drawn half as often as the others: behind them a fetch waits, and fewer instructions get in each other's
+    /// way.
+    fn kind(&mut self) -> u8 {
+        [PLAIN, PLAIN, LOAD, LOAD, STORE, STORE, BRANCH, JUMP][self.below(8) as usize]
+    }
+
     /// Its data latency is above the cycles of a hit.
     fn instruction(&mut self, flags: u64, hit_cycles: u32) -> Instruction {
-        let kind = self.below(4) as u8;
+        let kind = self.kind();
         let memory = kind == LOAD || kind == STORE;
         Instruction {
             kind,
@@ -29,7 +35,7 @@ impl Dice {
             access: if memory { self.below(flags) as u8 } else { HIT },
             source1: self.below(4) as u8,
             source2: self.below(4) as u8,
-            target: if kind <= LOAD { self.below(4) as u8 } else { 0 },
+            target: if kind == STORE || kind == BRANCH { 0 } else { self.below(4) as u8 },
             execution: (self.below(2) * self.below(5)) as u8,
             fetch_latency: self.latency(),
             data_latency: if memory { hit_cycles as u16 + self.latency() } else { 0 },
@@ -75,6 +81,8 @@ impl Dice {
         }
     }
 
+    /// Cut anywhere, a byte longer, or with one byte changed, every other time to one below 16, which as a kind or as flags may keep the
+    /// rules or just break them, and as a target is a register.
     fn damage(&mut self, bytes: &mut Vec<u8>) {
         match self.below(4) {
             0 => bytes.truncate(self.below(bytes.len() as u64 + 1) as usize),
@@ -83,7 +91,8 @@ impl Dice {
             how => {
                 let most = if how == 2 { bytes.len().min(20) } else { bytes.len() };
                 let at = self.below(most as u64) as usize;
-                bytes[at] = self.below(256) as u8;
+                let values = [16, 256][self.below(2) as usize];
+                bytes[at] = self.below(values) as u8;
             }
         }
     }

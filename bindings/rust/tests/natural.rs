@@ -114,11 +114,12 @@ fn whole_bodies() {
 
 #[test]
 fn refused_bodies() {
-    let body = traces::random(3, 8, 2, 0);
+    let body = traces::random(5, 8, 2, 0);
+    assert!((0..5).all(|kind| body.chunks_exact(RECORD_SIZE).any(|b| b[0] == kind)), "a kind is missing");
     answers_alike(&body[..body.len() - 1], 0);
     answers_alike(&traces::plain(sic::MAX_INSTRUCTIONS + 1), 0);
     for at in 0..body.len() {
-        for value in [0, 3, 15, 16, 31, 32, 255] {
+        for value in [0, 3, 4, 5, 15, 16, 31, 32, 255] {
             let mut damaged = body.clone();
             damaged[at] = value;
             for hit_cycles in [0, 3, 15, 16] {

@@ -1,4 +1,4 @@
--- The time on a shared bus for A to L, by computation.
+-- The time on a shared bus for A to L, for data hits and for jumps, by computation.
 use mathlib.Core.Path.{_≡_, refl, ap, _∙_}
 use native.Mathlib.Omega.{arith}
 use Prim.Native.Nat.{ℕ, zero, suc, _<_}
@@ -10,7 +10,7 @@ use Rattle.machine.specs.Rules.{further as furtherOn, shortOf, entry, noOlder, 
 use Rattle.machine.specs.Time.{bound, leastFrom, finish, unknown-misses, withWaits, settleFlag, settleInstruction, settle, worst}
 use Rattle.machine.specs.Hits.{withHits}
 use Rattle.machine.specs.Bus.{countsFetch, countsData, accessesOf, accesses, busTime, fetch-in-IF, load-in-MEM, store-in-ST, store-in-MEM}
-use Rattle.machine.specs.Cases.{cases, caseC, caseF, caseI, caseL, missAndHit}
+use Rattle.machine.specs.Cases.{cases, caseC, caseF, caseI, caseL, missAndHit, jumps}
 use Rattle.machine.proofs.Delays.{allAtWorst, worst-delayed}
 use Rattle.machine.proofs.Settlings.{settles}
 use Rattle.record.specs.Refusal.{_then_, _unless_}
@@ -22,7 +22,7 @@ use Rattle.encoding.proofs.Fits.{Small, small-bytes}
 use Rattle.encoding.proofs.RoundTrip.{trace-again}
 use Rattle.bus.specs.Answers.{exceeds, exceedsAt, waitRefusal, busRefusal, busAnswer}
 use Rattle.claims.specs.Bus.{EmbodiedVersion}
-use Rattle.claims.specs.BusCases.{BusAnswered, LongWaitDeclined, HitsOnBus, WaitsAttain, TimeAttained, EachUnderWay}
+use Rattle.claims.specs.BusCases.{BusAnswered, LongWaitDeclined, HitsOnBus, JumpsOnBus, WaitsAttain, TimeAttained, EachUnderWay}
 use Rattle.claims.proofs.Claim.{finish-answered}
 use Rattle.claims.proofs.Bus.{time-holds}
 
@@ -37,6 +37,10 @@ long-wait-declined = (refl, refl)
 pub hits-on-bus : HitsOnBus
 unfolding _and_ _or_ every none furtherOn shortOf entry noOlder readsInID readsInEX missesData readyIn ready budget movesWithin moves cycle allPre after allLeft bound leastFrom finish settle worst withHits countsFetch countsData accessesOf accesses busTime missAndHit _then_ _unless_ fieldsFrom breaksRules notAbove kindOf flagOf instructionOf breaksAt notAboveAt firsts traceOf recordOf recordBytes fieldsOf bodyOf lengthRefusal recordRefusal hitRefusal bodyRefusal timedRefusal exceeds exceedsAt waitRefusal busRefusal busAnswer
 hits-on-bus = refl
+
+pub jumps-on-bus : JumpsOnBus
+unfolding _and_ _or_ every none furtherOn shortOf entry noOlder readsInID readsInEX missesData readyIn ready budget movesWithin moves cycle allPre after allLeft bound leastFrom finish settle worst withHits countsFetch countsData accessesOf accesses busTime jumps _then_ _unless_ fieldsFrom breaksRules notAbove kindOf flagOf instructionOf breaksAt notAboveAt firsts traceOf recordOf recordBytes fieldsOf bodyOf lengthRefusal recordRefusal hitRefusal bodyRefusal timedRefusal exceeds exceedsAt waitRefusal busRefusal busAnswer
+jumps-on-bus = refl
 
 -- the cases' own traces have no cycles of a hit
 one-none : (i : Instruction) → i .hitCycles ≡ 0 → (k : ℕ) → k < 1 → instruction (i ∷ []) k .hitCycles ≡ 0

@@ -1,7 +1,7 @@
 -- The calls answer for A to L, and for what document 02 amends, what the documents' times say: the times by computation, and from the times what Run answers for every limit.
 use Prim.Native.Nat.{ℕ, min}
 use mathlib.Core.Bool.{Bool, true, false, not}
-use mathlib.Core.List.{List, [], _∷_, _++_, map}
+use mathlib.Core.List.{List, [], _∷_, map}
 use mathlib.Core.Path.{_≡_, refl, ap₂, _∙_}
 use native.Mathlib.Omega.{arith}
 use borrow.Author.Tests.{leb-true, le-leb, eqb-true}
@@ -12,7 +12,7 @@ use Rattle.machine.specs.Rules.{further as furtherOn, shortOf, entry, noOlder, 
 use Rattle.machine.specs.Time.{bound, leastFrom, finish, settle, best, worst}
 use Rattle.machine.specs.Hits.{withHits}
 use Rattle.machine.specs.State.{fetchedBelow, occupantBelow, stateOf}
-use Rattle.machine.specs.Cases.{Case, timed, cases, further, lateValues, storeAndLoad, hitCases, chartOfD, chartOfHits}
+use Rattle.machine.specs.Cases.{Case, timed, cases, further, lateValues, storeAndLoad, hitCases, jumpAndPlain, jumps, allCases, chartOfD, chartOfHits, chartOfJump}
 use Rattle.machine.proofs.Connectives.{Value, passed, failed, value, both-ways, and-l, and-r, implies}
 use Rattle.machine.proofs.Finish.{all-left-is}
 use Rattle.record.specs.Refusal.{_then_, _unless_}
@@ -24,7 +24,7 @@ use Rattle.encoding.specs.Cases.{known, refusalOf}
 use Rattle.encoding.proofs.RoundTrip.{timed-again}
 use Rattle.running.specs.Run.{ranFor, runAnswer}
 use Rattle.timing.specs.Answers.{finishAnswer, bestWorstAnswer, marginAnswer}
-use Rattle.claims.specs.Cases.{finishOf, bestWorstOf, runOf, marginOf, CasesAnswered, ChartAnswered, HitChartAnswered}
+use Rattle.claims.specs.Cases.{finishOf, bestWorstOf, runOf, marginOf, CasesAnswered, ChartAnswered, HitChartAnswered, JumpChartAnswered}
 
 -- all have left by a limit when the cycles run come to the finishing time
 left-by : (trace : Trace) (limit time : ℕ) → finish trace ≡ time → allLeft trace (after trace (min limit time)) ≡ leb time limit
@@ -90,22 +90,22 @@ map-same test f g same [] e = refl
 map-same {A} test f g same (c ∷ cs) e =
     ap₂ (λ (a : A) (rest : List A). a ∷ rest) (same c (and-l _ _ e)) (map-same test f g same cs (and-r _ _ e))
 
-cases-run : all runs (cases ++ further ++ lateValues ++ hitCases) ≡ true
-unfolding _and_ _or_ every none furtherOn shortOf entry noOlder readsInID readsInEX missesData readyIn ready budget movesWithin moves cycle allPre after allLeft bound leastFrom finish withHits cases further lateValues hitCases _then_ _unless_ fieldsFrom breaksRules hasUnknown notAbove breaksAt unknownAt notAboveAt recordOf recordBytes fieldsOf bodyOf lengthRefusal recordRefusal unknownRefusal hitRefusal bodyRefusal timedRefusal settledRefusal known refusalOf runs all
+cases-run : all runs allCases ≡ true
+unfolding _and_ _or_ every none furtherOn shortOf entry noOlder readsInID readsInEX missesData readyIn ready budget movesWithin moves cycle allPre after allLeft bound leastFrom finish withHits cases further lateValues hitCases jumps _then_ _unless_ fieldsFrom breaksRules hasUnknown notAbove breaksAt unknownAt notAboveAt recordOf recordBytes fieldsOf bodyOf lengthRefusal recordRefusal unknownRefusal hitRefusal bodyRefusal timedRefusal settledRefusal known refusalOf runs all
 cases-run = refl
 
-cases-margin : all margins (cases ++ further ++ lateValues ++ hitCases) ≡ true
-unfolding _and_ _or_ every none furtherOn shortOf entry noOlder readsInID readsInEX missesData readyIn ready budget movesWithin moves cycle allPre after allLeft bound leastFrom finish settle worst withHits cases further lateValues hitCases _then_ _unless_ fieldsFrom breaksRules notAbove breaksAt notAboveAt recordOf recordBytes fieldsOf bodyOf lengthRefusal recordRefusal hitRefusal bodyRefusal timedRefusal margins all
+cases-margin : all margins allCases ≡ true
+unfolding _and_ _or_ every none furtherOn shortOf entry noOlder readsInID readsInEX missesData readyIn ready budget movesWithin moves cycle allPre after allLeft bound leastFrom finish settle worst withHits cases further lateValues hitCases jumps _then_ _unless_ fieldsFrom breaksRules notAbove breaksAt notAboveAt recordOf recordBytes fieldsOf bodyOf lengthRefusal recordRefusal hitRefusal bodyRefusal timedRefusal margins all
 cases-margin = refl
 
 pub cases-answered : CasesAnswered
-unfolding _and_ _or_ every none furtherOn shortOf entry noOlder readsInID readsInEX missesData readyIn ready budget movesWithin moves cycle allPre after allLeft bound leastFrom finish settle best worst withHits cases further lateValues hitCases _then_ _unless_ fieldsFrom breaksRules hasUnknown notAbove kindOf flagOf instructionOf breaksAt unknownAt notAboveAt firsts traceOf recordOf recordBytes fieldsOf bodyOf lengthRefusal recordRefusal unknownRefusal hitRefusal bodyRefusal timedRefusal settledRefusal known refusalOf finishAnswer bestWorstAnswer finishOf bestWorstOf
+unfolding _and_ _or_ every none furtherOn shortOf entry noOlder readsInID readsInEX missesData readyIn ready budget movesWithin moves cycle allPre after allLeft bound leastFrom finish settle best worst withHits cases further lateValues hitCases jumps _then_ _unless_ fieldsFrom breaksRules hasUnknown notAbove kindOf flagOf instructionOf breaksAt unknownAt notAboveAt firsts traceOf recordOf recordBytes fieldsOf bodyOf lengthRefusal recordRefusal unknownRefusal hitRefusal bodyRefusal timedRefusal settledRefusal known refusalOf finishAnswer bestWorstAnswer finishOf bestWorstOf
 cases-answered =
     record {
       finish = refl;
       bestWorst = refl;
-      run = λ limit. map-same runs _ _ (λ c e. run-tested c e limit) (cases ++ further ++ lateValues ++ hitCases) cases-run;
-      margin = λ deadline. map-same margins _ _ (λ c e. margin-tested c e deadline) (cases ++ further ++ lateValues ++ hitCases) cases-margin;
+      run = λ limit. map-same runs _ _ (λ c e. run-tested c e limit) allCases cases-run;
+      margin = λ deadline. map-same margins _ _ (λ c e. margin-tested c e deadline) allCases cases-margin;
     }
 
 pub chart-answered : ChartAnswered
@@ -115,3 +115,7 @@ chart-answered = refl
 pub hit-chart-answered : HitChartAnswered
 unfolding _and_ _or_ every none furtherOn shortOf entry noOlder readsInID readsInEX missesData readyIn ready budget movesWithin moves cycle allPre after allLeft bound leastFrom finish fetchedBelow occupantBelow stateOf withHits storeAndLoad chartOfHits _then_ _unless_ fieldsFrom breaksRules hasUnknown notAbove kindOf flagOf instructionOf breaksAt unknownAt notAboveAt firsts traceOf recordOf recordBytes fieldsOf bodyOf lengthRefusal recordRefusal unknownRefusal hitRefusal bodyRefusal timedRefusal settledRefusal ranFor runAnswer
 hit-chart-answered = refl
+
+pub jump-chart-answered : JumpChartAnswered
+unfolding _and_ _or_ every none furtherOn shortOf entry noOlder readsInID readsInEX missesData readyIn ready budget movesWithin moves cycle allPre after allLeft bound leastFrom finish fetchedBelow occupantBelow stateOf withHits jumpAndPlain chartOfJump _then_ _unless_ fieldsFrom breaksRules hasUnknown notAbove kindOf flagOf instructionOf breaksAt unknownAt notAboveAt firsts traceOf recordOf recordBytes fieldsOf bodyOf lengthRefusal recordRefusal unknownRefusal hitRefusal bodyRefusal timedRefusal settledRefusal ranFor runAnswer
+jump-chart-answered = refl

@@ -1,14 +1,14 @@
 -- Document 01's "Charts worked by hand" through the calls: what Finish, Best and worst, Run and Margin answer for the bodies of A to L, and for
--- those of document 02, F-3 and F-4.
+-- those of document 02, F-3, F-4 and F-6.
 use Prim.Native.Nat.{ℕ, min}
 use mathlib.Core.Bool.{false, cond}
-use mathlib.Core.List.{List, _++_, map}
+use mathlib.Core.List.{List, map}
 use mathlib.Core.Path.{_≡_}
 use lib.Dec.{leb}
 use lib.IntN.{pos, _-ℤ_}
 use Rattle.machine.specs.Rules.{after}
 use Rattle.machine.specs.State.{start, stateOf}
-use Rattle.machine.specs.Cases.{Case, timed, cases, further, lateValues, storeAndLoad, hitCases, chartOfD, chartOfHits}
+use Rattle.machine.specs.Cases.{Case, timed, allCases, storeAndLoad, jumpAndPlain, chartOfD, chartOfHits, chartOfJump}
 use Rattle.record.specs.Body.{firsts}
 use Rattle.encoding.specs.Encoding.{bodyOf}
 use Rattle.encoding.specs.Cases.{bytesOfD, known, refusalOf}
@@ -52,10 +52,10 @@ pub record Answered (table : List Case) : Type 0 where
   pub run : (limit : ℕ) → map (λ c. runAnswer (bodyOf (c .trace)) limit (c .hits)) table ≡ map (λ c. runOf c limit) table
   pub margin : (deadline : ℕ) → map (λ c. marginAnswer (bodyOf (c .trace)) deadline (c .hits)) table ≡ map (λ c. marginOf c deadline) table
 
--- "Proved: A to L", and the cases that they do not show, those of document 02, F-3 and F-4, among them. Were every body refused, the claims over accepted
--- bodies would hold and say nothing.
+-- "Proved: A to L", and the cases that they do not show, those of document 02, F-3, F-4 and F-6, among them. Were every body refused, the claims over
+-- accepted bodies would hold and say nothing.
 abbrev pub CasesAnswered : Type 0
-CasesAnswered = Answered (cases ++ further ++ lateValues ++ hitCases)
+CasesAnswered = Answered allCases
 
 -- D's chart, row by row, is what Run gives for the bytes that document 01 prints.
 abbrev pub ChartAnswered : Type 0
@@ -64,3 +64,7 @@ ChartAnswered = firsts (λ limit. runAnswer bytesOfD limit 0 .state) 9 ≡ chart
 -- F-4's store hit and load hit with h = 2, the same way.
 abbrev pub HitChartAnswered : Type 0
 HitChartAnswered = firsts (λ limit. runAnswer (bodyOf storeAndLoad) limit 2 .state) 10 ≡ chartOfHits
+
+-- F-6's jump with an execution latency of 1, and the plain one behind it, the same way.
+abbrev pub JumpChartAnswered : Type 0
+JumpChartAnswered = firsts (λ limit. runAnswer (bodyOf (jumpAndPlain 1)) limit 0 .state) 11 ≡ chartOfJump

@@ -1,6 +1,6 @@
 -- Tests of a record's numbers are tests of the kind or flag that they stand for: tried on the numbers that name one, and the same beyond them.
 use Prim.Native.Nat.{ℕ, _≤_}
-use mathlib.Core.Bool.{Bool, true, false}
+use mathlib.Core.Bool.{Bool, true, false, _||_}
 use mathlib.Core.Path.{_≡_, refl, sym, _∙_}
 use native.Mathlib.Omega.{arith}
 use borrow.Author.Tests.{ne-eqb}
@@ -36,12 +36,12 @@ alike t u bound below beyond n = pick (tri n bound)
     pick (equal e) = beyond n (omega arith)
     pick (more l) = beyond n (omega arith)
 
--- the numbers from 4 on read as plain, those from 2 on as unknown
-kinds : (number : ℕ) (u : Kind → Bool) → number ≤ 3 → u plain ≡ false → every (λ n. agree (eqb n number) (u (kindOf n))) 4 ≡ true → (n : ℕ) → eqb n number ≡ u (kindOf n)
+-- the numbers from 5 on read as plain, those from 2 on as unknown
+kinds : (t : ℕ → Bool) (u : Kind → Bool) → ((n : ℕ) → 5 ≤ n → t n ≡ false) → u plain ≡ false → every (λ n. agree (t n) (u (kindOf n))) 5 ≡ true → (n : ℕ) → t n ≡ u (kindOf n)
 unfolding kindOf
-kinds number u l none below =
-    alike (λ n. eqb n number) (λ n. u (kindOf n)) 4 below
-    (λ n m. ne-eqb n number (omega arith) ∙ rw (ne-eqb n 1 (omega arith), ne-eqb n 2 (omega arith), ne-eqb n 3 (omega arith)) (sym none))
+kinds t u beyond none below =
+    alike t (λ n. u (kindOf n)) 5 below
+    (λ n l. beyond n l ∙ rw (ne-eqb n 1 (omega arith), ne-eqb n 2 (omega arith), ne-eqb n 3 (omega arith), ne-eqb n 4 (omega arith)) (sym none))
 
 flags : (number : ℕ) (u : Flag → Bool) → number ≤ 1 → u unknown ≡ false → every (λ n. agree (eqb n number) (u (flagOf n))) 2 ≡ true → (n : ℕ) → eqb n number ≡ u (flagOf n)
 unfolding flagOf
@@ -51,15 +51,15 @@ flags number u l none below =
 
 pub load-number : (n : ℕ) → eqb n 1 ≡ isLoad (kindOf n)
 unfolding kindOf every agree _and_
-load-number = kinds 1 isLoad (omega arith) refl refl
+load-number = kinds (λ n. eqb n 1) isLoad (λ n l. ne-eqb n 1 (omega arith)) refl refl
 
 pub store-number : (n : ℕ) → eqb n 2 ≡ isStore (kindOf n)
 unfolding kindOf every agree _and_
-store-number = kinds 2 isStore (omega arith) refl refl
+store-number = kinds (λ n. eqb n 2) isStore (λ n l. ne-eqb n 2 (omega arith)) refl refl
 
-pub branch-number : (n : ℕ) → eqb n 3 ≡ holdsFetches (kindOf n)
+pub holding-numbers : (n : ℕ) → (eqb n 3 || eqb n 4) ≡ holdsFetches (kindOf n)
 unfolding kindOf every agree _and_
-branch-number = kinds 3 holdsFetches (omega arith) refl refl
+holding-numbers = kinds (λ n. eqb n 3 || eqb n 4) holdsFetches (λ n l. rw (ne-eqb n 3 (omega arith), ne-eqb n 4 (omega arith))) refl refl
 
 pub hit-number : (n : ℕ) → eqb n 0 ≡ hits (flagOf n)
 unfolding flagOf every agree _and_

@@ -25,6 +25,8 @@ const STORE: u32 = 2;
 
 const BRANCH: u32 = 3;
 
+const JUMP: u32 = 4;
+
 // The numbers of the flags that are known.
 pub const HIT: u32 = 0;
 
@@ -38,6 +40,7 @@ pub fn kind_number(kind: Kind) -> u32
         Kind::Load => LOAD,
         Kind::Store => STORE,
         Kind::Branch => BRANCH,
+        Kind::Jump => JUMP,
     }
 }
 
@@ -50,6 +53,7 @@ pub fn kind_of(number: u32) -> Kind
         LOAD => Kind::Load,
         STORE => Kind::Store,
         BRANCH => Kind::Branch,
+        JUMP => Kind::Jump,
         _ => Kind::Plain,
     }
 }
@@ -76,7 +80,7 @@ pub fn is_store(f: Fields) -> bool
 pub fn holds_fetches(f: Fields) -> bool
     ensures { λ r. ⌜ r ≡ holdsFetches (instructionOf f .kind) ⌝ }
 {
-    f.kind == BRANCH
+    (f.kind == BRANCH) | (f.kind == JUMP)
 }
 
 pub fn fetch_hits(f: Fields) -> bool

@@ -8,7 +8,7 @@ use native.Mathlib.Omega.{arith}
 use borrow.Author.Tests.{ne-eqb, eqb-false}
 use lib.Dec.{eqb}
 use Rattle.machine.specs.Test.{_and_, _or_}
-use Rattle.machine.specs.Instruction.{Kind, plain, load, store, branch, Flag, hit, miss, unknown}
+use Rattle.machine.specs.Instruction.{Kind, plain, load, store, branch, jump, Flag, hit, miss, unknown}
 use Rattle.machine.specs.Rules.{isLoad, isStore}
 use Rattle.record.specs.Rules.{kindOf, kindNumber, flagOf, flagNumber}
 use Rattle.record.proofs.Within.{or-false}
@@ -20,6 +20,7 @@ kindOf-number plain = refl
 kindOf-number load = refl
 kindOf-number store = refl
 kindOf-number branch = refl
+kindOf-number jump = refl
 
 pub flagOf-number : (g : Flag) → flagOf (flagNumber g) ≡ g
 unfolding flagOf
@@ -27,11 +28,12 @@ flagOf-number hit = refl
 flagOf-number miss = refl
 flagOf-number unknown = refl
 
-pub kindNumber-le : (k : Kind) → kindNumber k ≤ 3
+pub kindNumber-le : (k : Kind) → kindNumber k ≤ 4
 kindNumber-le plain = omega arith
 kindNumber-le load = omega arith
 kindNumber-le store = omega arith
 kindNumber-le branch = omega arith
+kindNumber-le jump = omega arith
 
 pub flagNumber-le : (g : Flag) → flagNumber g ≤ 2
 flagNumber-le hit = omega arith
@@ -46,13 +48,14 @@ module _ (fetch access : Flag) where
   access-of-flags = omega (arith, flagNumber-le fetch, flagNumber-le access)
 
 -- read, then written
-pub number-kindOf : (n : ℕ) → n ≤ 3 → kindNumber (kindOf n) ≡ n
+pub number-kindOf : (n : ℕ) → n ≤ 4 → kindNumber (kindOf n) ≡ n
 unfolding kindOf
 number-kindOf zero l = refl
 number-kindOf (suc zero) l = refl
 number-kindOf (suc (suc zero)) l = refl
 number-kindOf (suc (suc (suc zero))) l = refl
-number-kindOf (suc (suc (suc (suc n)))) l = absurd (omega arith)
+number-kindOf (suc (suc (suc (suc zero)))) l = refl
+number-kindOf (suc (suc (suc (suc (suc n))))) l = absurd (omega arith)
 
 pub number-flagOf : (n : ℕ) → n ≤ 2 → flagNumber (flagOf n) ≡ n
 unfolding flagOf
@@ -70,7 +73,7 @@ above-0 n w e = ne-eqb (n + w) 0 (λ z. eqb-false n 0 e (omega arith))
 
 -- a data latency keeps its rule with a wait: for a load or store it stays above 0, and any other kind has no access that could wait
 abbrev DataLatency : ℕ → ℕ → Type 0
-DataLatency kind n = ((eqb kind 1 || eqb kind 2) && eqb n 0 || (eqb kind 0 || eqb kind 3) && not (eqb n 0)) ≡ false
+DataLatency kind n = ((eqb kind 1 || eqb kind 2) && eqb n 0 || (eqb kind 0 || eqb kind 3 || eqb kind 4) && not (eqb n 0)) ≡ false
 
 access-kept : (n w : ℕ) → (eqb n 0 || false) ≡ false → (eqb (n + w) 0 || false) ≡ false
 access-kept n w e = rw (above-0 n w (or-false (eqb n 0) false e .0))
@@ -81,3 +84,4 @@ data-latency-kept plain missed n w e = rw (add-zero n) e
 data-latency-kept load missed n w e = access-kept n (cond missed w 0) e
 data-latency-kept store missed n w e = access-kept n (cond missed w 0) e
 data-latency-kept branch missed n w e = rw (add-zero n) e
+data-latency-kept jump missed n w e = rw (add-zero n) e

@@ -2,22 +2,22 @@
 use Prim.Native.Nat.{ℕ, _≤_, _<_}
 use mathlib.Core.Bool.{false}
 use mathlib.Core.Path.{_≡_}
-use mathlib.Core.List.{List, [], _∷_, _++_, map}
+use mathlib.Core.List.{List, [], _∷_, map}
 use lib.Dec.{T}
 use lib.ListN.{length}
 use Rattle.machine.specs.Instruction.{Instruction, Trace, instruction}
 use Rattle.machine.specs.Time.{Settling, Delayed}
 use Rattle.machine.specs.State.{maxInstructions}
-use Rattle.machine.specs.Cases.{cases, further, lateValues, hitCases, caseD}
+use Rattle.machine.specs.Cases.{cases, allCases, caseD}
 use Rattle.record.specs.Body.{Bytes, breaksAt, traceOf, bodyRefusal, knownRefusal}
 use Rattle.encoding.specs.Encoding.{recordOf, bodyOf}
 use Rattle.record.specs.Refusal.{unknownFlag}
 use Rattle.encoding.specs.Cases.{bytesOfD, casesAccepted}
 
--- Traces are accepted at all: A to L, and the cases that they do not show, those of document 02, F-3 and F-4, among them. Were the rules of a record to
--- refuse everything, what is claimed of accepted bodies would hold and say nothing.
+-- Traces are accepted at all: A to L, and the cases that they do not show, those of document 02, F-3, F-4 and F-6, among them. Were the rules of a
+-- record to refuse everything, what is claimed of accepted bodies would hold and say nothing.
 abbrev pub CasesAccepted : Type 0
-CasesAccepted = T (casesAccepted (cases ++ further ++ lateValues ++ hitCases))
+CasesAccepted = T (casesAccepted allCases)
 
 -- Of A to L only the last has unknown flags: 11 declines L alone.
 abbrev pub OnlyLIsUnknown : Type 0

@@ -1,6 +1,7 @@
 // The stage that comes after another: `stage'(i)` of Figure 5, a case for each stage and kind, in the
-// figure's order. The lines above the functions are the figure's; no kind here is its nop. The comment
-// beside a case names the case of the definition that it is.
+// figure's order. The lines above the functions are the figure's; no kind here is its nop, and a jump,
+// which the figure does not have, goes where any kind but a store goes. The comment beside a case names
+// the case of the definition that it is.
 ghost use mathlib.Core.Path.{_≡_};
 ghost use Rattle.machine.specs.Rules.{next, pre, IF, ID, EX, MEM, ST, WB, post};
 ghost use Rattle.machine.specs.Named.{kindNamed, stageNamed};
@@ -16,6 +17,7 @@ fn after_st(kind: Kind) -> Stage
         Kind::Load => Stage::Post, // next load ST
         Kind::Store => Stage::Post, // next store ST
         Kind::Branch => Stage::Post, // next branch ST
+        Kind::Jump => Stage::Post, // next jump ST
     }
 }
 
@@ -28,6 +30,7 @@ fn after_wb(kind: Kind) -> Stage
         Kind::Load => Stage::Post, // next load WB
         Kind::Store => Stage::Post, // next store WB
         Kind::Branch => Stage::Post, // next branch WB
+        Kind::Jump => Stage::Post, // next jump WB
     }
 }
 
@@ -40,6 +43,7 @@ fn after_mem(kind: Kind) -> Stage
         Kind::Plain => Stage::WB, // next plain MEM
         Kind::Load => Stage::WB, // next load MEM
         Kind::Branch => Stage::WB, // next branch MEM
+        Kind::Jump => Stage::WB, // next jump MEM
         Kind::Store => Stage::ST, // next store MEM
     }
 }
@@ -53,6 +57,7 @@ fn after_ex(kind: Kind) -> Stage
         Kind::Load => Stage::MEM, // next load EX
         Kind::Store => Stage::MEM, // next store EX
         Kind::Branch => Stage::MEM, // next branch EX
+        Kind::Jump => Stage::MEM, // next jump EX
     }
 }
 
@@ -65,6 +70,7 @@ fn after_id(kind: Kind) -> Stage
         Kind::Load => Stage::EX, // next load ID
         Kind::Store => Stage::EX, // next store ID
         Kind::Branch => Stage::EX, // next branch ID
+        Kind::Jump => Stage::EX, // next jump ID
     }
 }
 
@@ -77,6 +83,7 @@ fn after_if(kind: Kind) -> Stage
         Kind::Load => Stage::ID, // next load IF
         Kind::Store => Stage::ID, // next store IF
         Kind::Branch => Stage::ID, // next branch IF
+        Kind::Jump => Stage::ID, // next jump IF
     }
 }
 
@@ -89,6 +96,7 @@ fn after_pre(kind: Kind) -> Stage
         Kind::Load => Stage::IF, // next load pre
         Kind::Store => Stage::IF, // next store pre
         Kind::Branch => Stage::IF, // next branch pre
+        Kind::Jump => Stage::IF, // next jump pre
     }
 }
 
@@ -101,6 +109,7 @@ fn after_post(kind: Kind) -> Stage
         Kind::Load => Stage::Post, // next load post
         Kind::Store => Stage::Post, // next store post
         Kind::Branch => Stage::Post, // next branch post
+        Kind::Jump => Stage::Post, // next jump post
     }
 }
 

@@ -1,7 +1,7 @@
 -- What an instruction does, by its kind. The theory goes by these facts alone, so that a kind more is a line in each and no case in a proof.
 use mathlib.Core.Bool.{Bool, true, false, not, cond}
 use mathlib.Core.Path.{_≡_, refl, ap, _∙_}
-use Rattle.machine.specs.Instruction.{Kind, plain, load, store, branch}
+use Rattle.machine.specs.Instruction.{Kind, plain, load, store, branch, jump}
 use Rattle.machine.specs.Rules.{Stage, pre, IF, ID, EX, MEM, ST, WB, post, next, same, isLoad, isStore, holdsFetches}
 use Rattle.machine.proofs.Stages.{eight}
 
@@ -17,6 +17,7 @@ does plain = nothing
 does load = loading
 does store = storing
 does branch = holding
+does jump = holding
 
 -- the stage after another, by the lane: a store's, or that of any other kind
 unfoldable pub nextIn : Bool → Stage → Stage
@@ -35,6 +36,7 @@ next-in plain = eight (λ k. next plain k ≡ nextIn false k) refl refl refl ref
 next-in load = eight (λ k. next load k ≡ nextIn false k) refl refl refl refl refl refl refl refl
 next-in store = eight (λ k. next store k ≡ nextIn true k) refl refl refl refl refl refl refl refl
 next-in branch = eight (λ k. next branch k ≡ nextIn false k) refl refl refl refl refl refl refl refl
+next-in jump = eight (λ k. next jump k ≡ nextIn false k) refl refl refl refl refl refl refl refl
 
 -- what comes next in its lane, as tests
 pub into : (kind : Kind) (k to : Stage) → same (nextIn (isStore kind) k) to ≡ true → same (next kind k) to ≡ true

@@ -29,6 +29,7 @@ pub mod Bridge
 pub mod Bounds
 pub mod Finish
 pub mod Zero
+pub mod Jumps
 pub mod Monotone
 pub mod Slower
 pub mod Longer

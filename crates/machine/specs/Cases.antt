@@ -4,7 +4,7 @@ use mathlib.Core.Bool.{Bool, true}
 use mathlib.Core.List.{List, [], _∷_, _++_}
 use lib.Dec.{eqb}
 use Rattle.machine.specs.Test.{_and_}
-use Rattle.machine.specs.Instruction.{Kind, plain, load, store, branch, Flag, hit, miss, unknown, Instruction, Trace}
+use Rattle.machine.specs.Instruction.{Kind, plain, load, store, branch, jump, Flag, hit, miss, unknown, Instruction, Trace}
 use Rattle.machine.specs.Rules.{after}
 use Rattle.machine.specs.Time.{best, worst}
 use Rattle.machine.specs.Hits.{withHits}
@@ -209,6 +209,36 @@ hitCases =
     ∷ record { trace = simple store unknown 16 ∷ []; hits = 15; best = 21; worst = 21 }
     ∷ []
 
+-- Document 02, F-6: a jump with an execution latency, and a plain one that reads its target
+unfoldable pub jumpAndPlain : ℕ → Trace
+unfolding simple plainOne executed registers
+jumpAndPlain latency = registers 0 0 1 (executed latency (simple jump hit 0)) ∷ registers 1 0 2 plainOne ∷ []
+
+-- A jump and a plain one take 9, as a branch and a plain one do, and 11 with an execution latency of 2, whether or not the plain one reads the target.
+-- The fetch behind a jump misses, and is unknown; the jump's own fetch misses; a jump behind a jump. A jump waits in ID for what it reads, as any kind
+-- but a store does. Past a store in ST it leaves through WB. Where the jump stands in EX until 14, behind a store that waits for ST, the plain one
+-- that reads its target enters EX as the jump leaves it.
+unfoldable pub jumps : List Case
+unfolding simple plainOne fetched executed registers settledCase jumpAndPlain
+jumps =
+    settledCase (simple jump hit 0 ∷ plainOne ∷ []) 9
+    ∷ settledCase (executed 2 (simple jump hit 0) ∷ plainOne ∷ []) 11
+    ∷ settledCase (jumpAndPlain 0) 9
+    ∷ settledCase (jumpAndPlain 2) 11
+    ∷ settledCase (simple jump hit 0 ∷ fetched miss 10 plainOne ∷ []) 19
+    ∷ record { trace = simple jump hit 0 ∷ fetched unknown 10 plainOne ∷ []; hits = 0; best = 9; worst = 19 }
+    ∷ settledCase (fetched miss 10 (simple jump hit 0) ∷ plainOne ∷ []) 19
+    ∷ settledCase (simple jump hit 0 ∷ simple jump hit 0 ∷ plainOne ∷ []) 12
+    ∷ settledCase (registers 0 0 1 (simple load hit 1) ∷ registers 1 0 2 (simple jump hit 0) ∷ []) 8
+    ∷ settledCase (registers 0 0 1 (simple load miss 10) ∷ registers 0 1 2 (simple jump hit 0) ∷ []) 18
+    ∷ settledCase (simple store miss 10 ∷ simple jump hit 0 ∷ []) 15
+    ∷ settledCase (simple store miss 10 ∷ simple store hit 1 ∷ jumpAndPlain 0) 18
+    ∷ []
+
+-- every case
+abbrev pub allCases : List Case
+allCases = cases ++ further ++ lateValues ++ hitCases ++ jumps
+
 -- the trace of a case, its data hits as long as it says
 abbrev pub timed : Case → Trace
 timed c = withHits (c .hits) (c .trace)
@@ -276,6 +306,23 @@ chartOfHits =
     ∷ row 2 dash dash dash (at 1 2) (at 0 2) dash
     ∷ row 2 dash dash dash (at 1 1) (at 0 1) dash
     ∷ row 2 dash dash dash (at 1 0) (at 0 0) dash
+    ∷ row 2 dash dash dash dash dash (at 1 0)
+    ∷ row 2 dash dash dash dash dash dash
+    ∷ []
+
+-- F-6's jump with an execution latency of 1, and the plain one. It is fetched when the jump stands at (EX, 0), and the jump leaves through WB.
+unfoldable pub chartOfJump : List State
+unfolding at dash row
+chartOfJump =
+    row 0 dash dash dash dash dash dash
+    ∷ row 1 (at 0 0) dash dash dash dash dash
+    ∷ row 1 dash (at 0 0) dash dash dash dash
+    ∷ row 1 dash dash (at 0 1) dash dash dash
+    ∷ row 1 dash dash (at 0 0) dash dash dash
+    ∷ row 2 (at 1 0) dash dash (at 0 0) dash dash
+    ∷ row 2 dash (at 1 0) dash dash dash (at 0 0)
+    ∷ row 2 dash dash (at 1 0) dash dash dash
+    ∷ row 2 dash dash dash (at 1 0) dash dash
     ∷ row 2 dash dash dash dash dash (at 1 0)
     ∷ row 2 dash dash dash dash dash dash
     ∷ []

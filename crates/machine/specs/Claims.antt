@@ -13,9 +13,10 @@ use Rattle.machine.specs.Rules.{Stage, pre, IF, ID, EX, MEM, ST, WB, pos
 use Rattle.machine.specs.Time.{bound, finish, Settling, Delayed, Known, settle, best, worst}
 use Rattle.machine.specs.Hits.{withHits, HitsTake}
 use Rattle.machine.specs.Before.{entryBefore, cycleBefore, afterBefore, finishBefore}
+use Rattle.machine.specs.Jumps.{asBranches}
 use Rattle.machine.specs.Order.{Slower, SameFlags, added}
 use Rattle.machine.specs.Bus.{busTime, Access, UnderWay}
-use Rattle.machine.specs.Cases.{cases, further as furtherCases, valueLoaded, nothingLoaded, lateValues, storeAndLoad, hitCases, casesHold, caseD, rows, chartOfD, chartOfValue, chartOfHits}
+use Rattle.machine.specs.Cases.{cases, further as furtherCases, valueLoaded, nothingLoaded, lateValues, storeAndLoad, hitCases, jumpAndPlain, jumps, casesHold, caseD, rows, chartOfD, chartOfValue, chartOfHits, chartOfJump}
 use Rattle.machine.specs.State.{start, placeOf, stateOf, Orderly, orderly}
 use Rattle.machine.specs.declared.State.{State}
 
@@ -35,7 +36,12 @@ LateValuesHold = T (casesHold lateValues)
 abbrev pub HitCasesHold : Type 0
 HitCasesHold = T (casesHold hitCases)
 
--- D's chart, row by row, that of F-3's example with a latency of 2, and that of F-4's store hit and load hit with h = 2
+-- and what document 02, F-6, amends
+abbrev pub JumpsHold : Type 0
+JumpsHold = T (casesHold jumps)
+
+-- D's chart, row by row, that of F-3's example with a latency of 2, that of F-4's store hit and load hit with h = 2, and that of F-6's jump with an
+-- execution latency of 1
 abbrev pub ChartHolds : Type 0
 ChartHolds = rows caseD 9 ≡ chartOfD
 
@@ -44,6 +50,9 @@ ValueChartHolds = rows (valueLoaded 2) 10 ≡ chartOfValue
 
 abbrev pub HitChartHolds : Type 0
 HitChartHolds = rows (withHits 2 storeAndLoad) 10 ≡ chartOfHits
+
+abbrev pub JumpChartHolds : Type 0
+JumpChartHolds = rows (jumpAndPlain 1) 11 ≡ chartOfJump
 
 -- "Stages run pre, IF, ID, EX, MEM, then ST for a store or WB for any other kind, then post.": the way of a kind
 abbrev pub way : Kind → List Stage
@@ -155,6 +164,19 @@ pub record AsBefore (trace : Trace) : Type 0 where
 
 abbrev pub ZeroIsBefore : Type 0
 ZeroIsBefore = (trace : Trace) → AsBefore (withHits 0 trace)
+
+-- document 02, F-6: "It holds back later fetches as a branch does, until it stands at (EX, 0), and goes on through WB." Of every trace: with branches in
+-- place of its jumps, and no target in place of theirs, every instruction stands where it stood, from wherever the instructions stand and after every
+-- number of cycles, and the times are the same. So nobody waits for what a jump writes.
+pub record TimedAsBranches (trace : Trace) : Type 0 where
+  pub cycles : (places : Places) (i : ℕ) → cycle (asBranches trace) places i ≡ cycle trace places i
+  pub places : (t i : ℕ) → after (asBranches trace) t i ≡ after trace t i
+  pub time : finish (asBranches trace) ≡ finish trace
+  pub best : best (asBranches trace) ≡ best trace
+  pub worst : worst (asBranches trace) ≡ worst trace
+
+abbrev pub JumpsAsBranches : Type 0
+JumpsAsBranches = (trace : Trace) → TimedAsBranches trace
 
 -- document 02, F-1: "It must hold for every settling of the flags and every added wait from 0 to d on each missed access."
 abbrev pub DelayedNoLater : Type 0

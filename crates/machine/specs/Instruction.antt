@@ -3,9 +3,9 @@ use Prim.Native.Nat.{ℕ}
 use mathlib.Core.List.{List}
 use lib.ListN.{getD}
 
--- "kind: 0 plain, 1 load, 2 store, 3 conditional branch"
+-- "kind: 0 plain, 1 load, 2 store, 3 conditional branch"; document 02, F-6: "Kind 4, a jump"
 pub data Kind : Type 0 where
-  plain load store branch : Kind
+  plain load store branch jump : Kind
 
 -- "0 hit, 1 miss, 2 unknown"
 pub data Flag : Type 0 where

@@ -5,6 +5,7 @@ pub mod Named
 pub mod Time
 pub mod Hits
 pub mod Before
+pub mod Jumps
 pub mod Order
 pub mod Bus
 pub mod Cases

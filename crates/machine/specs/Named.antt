@@ -1,5 +1,5 @@
 -- The kinds and stages that the code's names stand for.
-use Rattle.machine.specs.Instruction.{Kind, plain, load, store, branch}
+use Rattle.machine.specs.Instruction.{Kind, plain, load, store, branch, jump}
 use Rattle.machine.specs.Rules.{Stage, pre, IF, ID, EX, MEM, ST, WB, post}
 use Rattle.machine.specs.declared.Kind.{Kind as KindName}
 use Rattle.machine.specs.declared.Kind.the-variants as kind
@@ -11,6 +11,7 @@ kindNamed kind.Plain = plain
 kindNamed kind.Load = load
 kindNamed kind.Store = store
 kindNamed kind.Branch = branch
+kindNamed kind.Jump = jump
 
 abbrev pub stageNamed : StageName → Stage
 stageNamed stage.Pre = pre

@@ -4,28 +4,31 @@ use mathlib.Core.Bool.{Bool, true, false, not, cond}
 use lib.Dec.{ltb, eqb}
 use lib.ListN.{length}
 use Rattle.machine.specs.Test.{_and_, _or_, every, none}
-use Rattle.machine.specs.Instruction.{Kind, plain, load, store, branch, Flag, hit, miss, unknown, Instruction, Trace, instruction}
+use Rattle.machine.specs.Instruction.{Kind, plain, load, store, branch, jump, Flag, hit, miss, unknown, Instruction, Trace, instruction}
 
 -- "Stages run pre, IF, ID, EX, MEM, then ST for a store or WB for any other kind, then post."
 pub data Stage : Type 0 where
   pre IF ID EX MEM ST WB post : Stage
 
 -- The next stage; document 02, F-5: "let each stage and kind have its own case, in the figure's order". The lines above the cases are the
--- figure's; no kind here is its nop.
+-- figure's; no kind here is its nop, and a jump, which the figure does not have, goes where any kind but a store goes.
 abbrev pub next : Kind → Stage → Stage
 -- post : stage(i) ∈ {ST, WB} ∨ (stage(i) = ID ∧ opc(i) = nop)
 next plain ST = post
 next load ST = post
 next store ST = post
 next branch ST = post
+next jump ST = post
 next plain WB = post
 next load WB = post
 next store WB = post
 next branch WB = post
+next jump WB = post
 -- WB : stage(i) = MEM ∧ opc(i) ≠ store
 next plain MEM = WB
 next load MEM = WB
 next branch MEM = WB
+next jump MEM = WB
 -- ST : stage(i) = MEM ∧ opc(i) = store
 next store MEM = ST
 -- MEM : stage(i) = EX
@@ -33,26 +36,31 @@ next plain EX = MEM
 next load EX = MEM
 next store EX = MEM
 next branch EX = MEM
+next jump EX = MEM
 -- EX : stage(i) = ID ∧ opc(i) ≠ nop
 next plain ID = EX
 next load ID = EX
 next store ID = EX
 next branch ID = EX
+next jump ID = EX
 -- ID : stage(i) = IF
 next plain IF = ID
 next load IF = ID
 next store IF = ID
 next branch IF = ID
+next jump IF = ID
 -- IF : stage(i) = pre
 next plain pre = IF
 next load pre = IF
 next store pre = IF
 next branch pre = IF
+next jump pre = IF
 -- "an instruction in post stays there"; the figure has no such line
 next plain post = post
 next load post = post
 next store post = post
 next branch post = post
+next jump post = post
 
 -- how many stages an instruction passes through before this one
 abbrev pub rank : Stage → ℕ
@@ -96,18 +104,21 @@ further a b = ltb (rank (b .stage)) (rank (a .stage)) or (same (a .stage) (b .st
 unfoldable pub shortOf : Place → Stage → ℕ → Bool
 shortOf a s c = further (record { stage = s; count = c }) a
 
--- Tests of a kind, and of a flag. Of the kinds, a branch holds back the fetches of later instructions.
+-- Tests of a kind, and of a flag. Of the kinds, a branch holds back the fetches of later instructions; and a jump, document 02, F-6: "It holds back
+-- later fetches as a branch does, until it stands at (EX, 0), and goes on through WB."
 abbrev pub isLoad : Kind → Bool
 isLoad plain = false
 isLoad load = true
 isLoad store = false
 isLoad branch = false
+isLoad jump = false
 
 abbrev pub isStore : Kind → Bool
 isStore plain = false
 isStore load = false
 isStore store = true
 isStore branch = false
+isStore jump = false
 
 -- "a load or store": the kinds with a data access
 abbrev pub hasAccess : Kind → Bool
@@ -118,6 +129,7 @@ holdsFetches plain = false
 holdsFetches load = false
 holdsFetches store = false
 holdsFetches branch = true
+holdsFetches jump = true
 
 abbrev pub hits : Flag → Bool
 hits hit = true
@@ -147,7 +159,7 @@ unfoldable pub noOlder : Trace → Places → ℕ → (Instruction → Place →
 noOlder trace places i test = none (λ j. test (instruction trace j) (places j)) i
 
 -- "In pre it is ready when no older one is in pre, no older branch is short of (EX, 0), and its fetch hits or no older load is short of
--- (MEM, 0) and no older store short of (ST, 0)."
+-- (MEM, 0) and no older store short of (ST, 0)." F-6: nor an older jump, as `holdsFetches` has it.
 readyInPre : Trace → Places → ℕ → Bool
 readyInPre trace places i =
     noOlder trace places i (λ j p. same (p .stage) pre)

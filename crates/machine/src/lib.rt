@@ -7,12 +7,13 @@ pub mod stage;
 
 pub use stage::Stage;
 
-// The kinds of instruction; a branch is a conditional one.
+// The kinds of instruction; a branch is a conditional one, and a jump may write a register.
 pub enum Kind {
     Plain,
     Load,
     Store,
     Branch,
+    Jump,
 }
 
 // A stage's slot: empty (index and count 0), or an instruction's index with its remaining count.

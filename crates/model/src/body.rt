@@ -1,6 +1,7 @@
 // The rules of an instruction record, and the refusals 10, 8, 17 and 11 of a body.
 use super::trace::BRANCH;
 use super::trace::Instruction;
+use super::trace::JUMP;
 use super::trace::LOAD;
 use super::trace::MOST;
 use super::trace::RECORD;
@@ -25,7 +26,8 @@ pub fn has_data(kind: u8) -> bool {
     kind == LOAD || kind == STORE
 }
 
-// "Bits 4 to 7 are zero. Kinds 0 and 3 have data bits 0."
+// "Bits 4 to 7 are zero. Kinds 0 and 3 have data bits 0." And "Kind 4, a jump, has data bits and data
+// latency 0" (document 02, F-6).
 fn flags_break(kind: u8, flags: u8) -> bool {
     if flags >= 16 {
         return true;
@@ -39,7 +41,8 @@ fn flags_break(kind: u8, flags: u8) -> bool {
     !has_data(kind) && data_flag(flags) != 0
 }
 
-// "each 0 to 31"; "Kinds 2 and 3 have target 0."
+// "each 0 to 31"; "Kinds 2 and 3 have target 0." A jump "may have a target" (document 02, F-6), as
+// plain ones and loads do.
 fn registers_break(kind: u8, first: u8, second: u8, target: u8) -> bool {
     if first > 31 || second > 31 || target > 31 {
         return true;
@@ -47,7 +50,8 @@ fn registers_break(kind: u8, first: u8, second: u8, target: u8) -> bool {
     (kind == STORE || kind == BRANCH) && target != 0
 }
 
-// "1 to 65,535, also where the fetch hits"; "1 to 65,535 for kinds 1 and 2, and 0 for kinds 0 and 3".
+// "1 to 65,535, also where the fetch hits"; "1 to 65,535 for kinds 1 and 2, and 0 for kinds 0 and 3",
+// and for kind 4.
 fn latencies_break(kind: u8, fetch_latency: u32, data_latency: u32) -> bool {
     if fetch_latency == 0 {
         return true;
@@ -59,12 +63,12 @@ fn latencies_break(kind: u8, fetch_latency: u32, data_latency: u32) -> bool {
     }
 }
 
-// The record at an index breaks its rules.
+// The record at an index breaks its rules. The last kind is 4, a jump.
 fn record_breaks(s: &[u8], at: usize) -> bool
     requires { ⌜ at + 10 ≤ length (now s) ⌝ }
 {
     let kind = byte(s, at);
-    if kind > BRANCH {
+    if kind > JUMP {
         return true;
     }
     if flags_break(kind, byte(s, at + 1)) {

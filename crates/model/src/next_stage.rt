@@ -1,6 +1,7 @@
 // The stage that follows, with a case of its own for each stage and each kind, in the order of the
-// lines of stage' in Figure 5. The figure's nop is no kind of document 01. The default of a `match` on
-// the kind stands for the numbers that are no kind: no accepted trace has one.
+// lines of stage' in Figure 5. The figure's nop is no kind of document 01; a jump, which "goes on
+// through WB" (document 02, F-6), is one of those that the figure calls no store. The default of a
+// `match` on the kind stands for the numbers that are no kind: no accepted trace has one.
 use super::places::EX;
 use super::places::ID;
 use super::places::IF;
@@ -10,6 +11,7 @@ use super::places::PRE;
 use super::places::ST;
 use super::places::WB;
 use super::trace::BRANCH;
+use super::trace::JUMP;
 use super::trace::LOAD;
 use super::trace::PLAIN;
 use super::trace::STORE;
@@ -21,6 +23,7 @@ fn after_st(kind: u8) -> u8 {
         LOAD => POST,
         STORE => POST,
         BRANCH => POST,
+        JUMP => POST,
         _ => POST,
     }
 }
@@ -32,6 +35,7 @@ fn after_wb(kind: u8) -> u8 {
         LOAD => POST,
         STORE => POST,
         BRANCH => POST,
+        JUMP => POST,
         _ => POST,
     }
 }
@@ -43,6 +47,7 @@ fn after_mem(kind: u8) -> u8 {
         PLAIN => WB,
         LOAD => WB,
         BRANCH => WB,
+        JUMP => WB,
         STORE => ST,
         _ => POST,
     }
@@ -55,6 +60,7 @@ fn after_ex(kind: u8) -> u8 {
         LOAD => MEM,
         STORE => MEM,
         BRANCH => MEM,
+        JUMP => MEM,
         _ => POST,
     }
 }
@@ -66,6 +72,7 @@ fn after_id(kind: u8) -> u8 {
         LOAD => EX,
         STORE => EX,
         BRANCH => EX,
+        JUMP => EX,
         _ => POST,
     }
 }
@@ -77,6 +84,7 @@ fn after_if(kind: u8) -> u8 {
         LOAD => ID,
         STORE => ID,
         BRANCH => ID,
+        JUMP => ID,
         _ => POST,
     }
 }
@@ -88,6 +96,7 @@ fn after_pre(kind: u8) -> u8 {
         LOAD => IF,
         STORE => IF,
         BRANCH => IF,
+        JUMP => IF,
         _ => POST,
     }
 }
@@ -99,6 +108,7 @@ fn after_post(kind: u8) -> u8 {
         LOAD => POST,
         STORE => POST,
         BRANCH => POST,
+        JUMP => POST,
         _ => POST,
     }
 }

@@ -11,15 +11,18 @@ use super::sets::with_if;
 use super::trace::BRANCH;
 use super::trace::HIT;
 use super::trace::Instruction;
+use super::trace::JUMP;
 use super::trace::LOAD;
 use super::trace::MISS;
 use super::trace::STORE;
 
-// Whether some older one is in pre, some older branch is short of (EX, 0), some older load short of
-// (MEM, 0), some older store short of (ST, 0); and the target registers of those loads.
+// Whether some older one is in pre, some older branch is short of (EX, 0), some older jump short of
+// (EX, 0), some older load short of (MEM, 0), some older store short of (ST, 0); and the target
+// registers of those loads, which alone carry a dependence.
 pub struct Older {
     pub in_pre: bool,
     pub branch: bool,
+    pub jump: bool,
     pub load: bool,
     pub store: bool,
     pub targets: u32,
@@ -29,6 +32,7 @@ pub fn none() -> Older {
     Older {
         in_pre: false,
         branch: false,
+        jump: false,
         load: false,
         store: false,
         targets: 0,
@@ -60,6 +64,7 @@ pub fn one_more(older: Older, x: Instruction, at: Place) -> Older {
     Older {
         in_pre: either(older.in_pre, at.stage == PRE),
         branch: either(older.branch, is_short(x, at, BRANCH, EX)),
+        jump: either(older.jump, is_short(x, at, JUMP, EX)),
         load: either(older.load, load),
         store: either(older.store, is_short(x, at, STORE, ST)),
         targets: with_if(older.targets, x.target, load),
@@ -67,9 +72,10 @@ pub fn one_more(older: Older, x: Instruction, at: Place) -> Older {
 }
 
 // "In pre it is ready when no older one is in pre, no older branch is short of (EX, 0), and its
-// fetch hits or no older load is short of (MEM, 0) and no older store short of (ST, 0)."
+// fetch hits or no older load is short of (MEM, 0) and no older store short of (ST, 0)." A jump "holds
+// back later fetches as a branch does, until it stands at (EX, 0)" (document 02, F-6).
 fn ready_in_pre(fetch: u8, older: Older) -> bool {
-    if older.in_pre || older.branch {
+    if older.in_pre || older.branch || older.jump {
         return false;
     }
     fetch == HIT || (!older.load && !older.store)

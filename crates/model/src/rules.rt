@@ -20,6 +20,7 @@ use super::sets::has;
 use super::sets::with_if;
 use super::trace::BRANCH;
 use super::trace::Instruction;
+use super::trace::JUMP;
 use super::trace::LOAD;
 use super::trace::MISS;
 use super::trace::PLAIN;
@@ -35,6 +36,7 @@ struct Standing {
     loads: u32,
     stores: u32,
     branches: u32,
+    jumps: u32,
     waiting: u32,
 }
 
@@ -44,6 +46,7 @@ fn nothing() -> Standing {
         loads: 0,
         stores: 0,
         branches: 0,
+        jumps: 0,
         waiting: 0,
     }
 }
@@ -56,6 +59,7 @@ fn seen(s: Standing, kind: u8, at: Place, is_ready: bool) -> Standing {
         loads: with_if(s.loads, at.stage, kind == LOAD),
         stores: with_if(s.stores, at.stage, kind == STORE),
         branches: with_if(s.branches, at.stage, kind == BRANCH),
+        jumps: with_if(s.jumps, at.stage, kind == JUMP),
         waiting: with_if(s.waiting, at.stage, waits),
     }
 }
@@ -91,7 +95,8 @@ fn will_be_free(s: Standing, stage: u8, free: u32) -> bool {
     let load = can_go(s.loads, LOAD, stage, free);
     let store = can_go(s.stores, STORE, stage, free);
     let branch = can_go(s.branches, BRANCH, stage, free);
-    !has(s.waiting, stage) & plain & load & store & branch
+    let jump = can_go(s.jumps, JUMP, stage, free);
+    !has(s.waiting, stage) & plain & load & store & branch & jump
 }
 
 // The same stages, with this one if it will be free.

@@ -21,6 +21,9 @@ pub const STORE: u8 = 2;
 
 pub const BRANCH: u8 = 3;
 
+// "Kind 4, a jump" (document 02, F-6).
+pub const JUMP: u8 = 4;
+
 pub const HIT: u8 = 0;
 
 pub const MISS: u8 = 1;

@@ -1,8 +1,8 @@
--- What Step answers for document 01's case D, as its bytes are printed, and for the examples of document 02, F-3 and F-4.
+-- What Step answers for document 01's case D, as its bytes are printed, and for the examples of document 02, F-3, F-4 and F-6.
 use mathlib.Core.List.{[], _∷_, map}
 use mathlib.Core.Path.{_≡_}
 use lib.ListN.{take, drop}
-use Rattle.machine.specs.Cases.{chartOfD, valueLoaded, chartOfValue, storeAndLoad, chartOfHits}
+use Rattle.machine.specs.Cases.{chartOfD, valueLoaded, chartOfValue, storeAndLoad, chartOfHits, jumpAndPlain, chartOfJump}
 use Rattle.encoding.specs.Encoding.{bodyOf}
 use Rattle.encoding.specs.Cases.{bytesOfD}
 use Rattle.pipeline.specs.Step.{stepAnswer}
@@ -21,6 +21,11 @@ ValueStepAnswered =
 abbrev pub HitStepAnswered : Type 0
 HitStepAnswered =
     map (λ s. stepAnswer (bodyOf storeAndLoad) s 2) (take 9 chartOfHits) ≡ map (λ s. record { refusal = 0; state = s }) (drop 1 chartOfHits)
+
+-- the same from each row of F-6's jump with an execution latency of 1, and the plain one behind it
+abbrev pub JumpStepAnswered : Type 0
+JumpStepAnswered =
+    map (λ s. stepAnswer (bodyOf (jumpAndPlain 1)) s 0) (take 10 chartOfJump) ≡ map (λ s. record { refusal = 0; state = s }) (drop 1 chartOfJump)
 
 -- "The calls that take a state judge its counts by the new entry counts": the row in which both have their count, h in MEM and in ST, is orderly for an
 -- h of 2 and more, and is not for 1, of which the count is h + 1, nor for 0.

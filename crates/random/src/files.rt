@@ -2,8 +2,8 @@
 use job::locate;
 use random_traces::Dice;
 use random_traces::Draft;
+use random_traces::damage;
 use random_traces::part;
-use random_traces::small;
 use record::layout::RECORD_SIZE;
 use writer::write;
 
@@ -172,7 +172,7 @@ pub fn damaged(file: File, d: Dice) -> File {
     let at = part(d, 9, 160) as usize % 160;
     let near = if how == 2 { at % 20 } else { at };
     if near < 160 {
-        bytes[near] = small(d, 30, 256);
+        bytes[near] = damage(d);
     }
     File {
         bytes,

@@ -1,7 +1,7 @@
 // Bodies that come near the refusals: few of their accesses missed, a latency near the longest, or damaged.
 use random_traces::Dice;
+use random_traces::damage;
 use random_traces::part;
-use random_traces::small;
 use record::layout::DATA_LATENCY;
 use record::layout::FETCH_LATENCY;
 use record::layout::FLAGS;
@@ -100,7 +100,7 @@ pub fn damaged(bytes: [u8; 120], d: Dice) -> [u8; 120] {
     let mut b = bytes;
     let at = (part(d, 9, 120) % 120) as usize;
     if part(d, 3, 2) == 0 {
-        b[at] = small(d, 30, 256);
+        b[at] = damage(d);
     }
     b
 }

@@ -32,3 +32,12 @@ pub fn part(d: Dice, at: u32, n: u64) -> u32
 pub fn small(d: Dice, at: u32, n: u64) -> u8 {
     (part(d, at, n) % 256) as u8
 }
+
+// A byte to damage a record with: any, or every other time one below 16, which as a kind or as flags may
+// keep the rules or just break them, and as a target is a register.
+pub fn damage(d: Dice) -> u8 {
+    if part(d, 45, 2) == 0 {
+        return small(d, 30, 16);
+    }
+    small(d, 30, 256)
+}

@@ -8,6 +8,7 @@ pub use counts::more;
 pub use counts::one_more_if;
 pub use dice::Dice;
 pub use dice::SEED;
+pub use dice::damage;
 pub use dice::part;
 pub use dice::rolled;
 pub use dice::small;

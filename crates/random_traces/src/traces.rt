@@ -11,6 +11,14 @@ use record::put_record;
 
 const MOST: u32 = 12;
 
+const LOAD: u32 = 1;
+
+const STORE: u32 = 2;
+
+const BRANCH: u32 = 3;
+
+const JUMP: u32 = 4;
+
 // How many h there are to draw: 0 to 15, and 16, with which 17 declines every trace.
 const HITS: u32 = 17;
 
@@ -84,18 +92,31 @@ fn only(test: bool, n: u32) -> u32
     0
 }
 
+// Two of eight are plain, two loads, two stores, one is a branch and one a jump: behind these two a fetch
+// waits, and fewer instructions get in each other's way.
+fn kind_of(d: Dice) -> u32
+    ensures { λ r. ⌜ r ≤ 4 ⌝ }
+{
+    let eighth = part(d, 0, 8) % 8;
+    if eighth == 7 {
+        return JUMP;
+    }
+    eighth / 2
+}
+
 fn drawn(d: Dice, e: Dice, style: Style) -> Fields
     ensures { λ r. ⌜ Fits r ⌝ }
 {
-    let kind = part(d, 0, 4) % 4;
-    let memory = (kind == 1) | (kind == 2);
+    let kind = kind_of(d);
+    let memory = (kind == LOAD) | (kind == STORE);
+    let no_target = (kind == STORE) | (kind == BRANCH);
     Fields {
         kind,
         fetch: part(d, 3, style.flags) % 4,
         access: only(memory, part(d, 6, style.flags) % 4),
         source1: part(d, 10, 4) % 4,
         source2: part(d, 13, 4) % 4,
-        target: only(kind < 2, part(d, 16, 4) % 4),
+        target: only(!no_target, part(d, 16, 4) % 4),
         execution: only(part(d, 24, 2) != 0, part(d, 20, 5) % 5),
         fetch_latency: latency(e, 0, style.long),
         data_latency: only(memory, data_latency(e, style)),

@@ -9,7 +9,7 @@ use borrow.Author.Tests.{eqb-true, eqb-false, leb-true, leb-false, eq-eqb, le-le
 use lib.Dec.{leb, eqb}
 use lib.ListN.{length}
 use Rattle.machine.specs.Test.{_or_, none}
-use Rattle.machine.specs.Instruction.{plain, load, store, branch, Instruction, instruction}
+use Rattle.machine.specs.Instruction.{plain, load, store, branch, jump, Instruction, instruction}
 use Rattle.machine.specs.Rules.{hasAccess}
 use Rattle.machine.specs.Hits.{HitsTake}
 use Rattle.machine.specs.State.{maxInstructions}
@@ -104,16 +104,17 @@ module _ (body : List ℕ) where
         omega arith
 
 -- a load or store has kind 1 or 2
-access-kind : (loads stores branches : Bool) → hasAccess (cond loads load (cond stores store (cond branches branch plain))) ≡ (loads || stores)
+access-kind : (loads stores branches jumps : Bool) → hasAccess (cond loads load (cond stores store (cond branches branch (cond jumps jump plain)))) ≡ (loads || stores)
 unfolding _or_
-access-kind true stores branches = refl
-access-kind false true branches = refl
-access-kind false false true = refl
-access-kind false false false = refl
+access-kind true stores branches jumps = refl
+access-kind false true branches jumps = refl
+access-kind false false true jumps = refl
+access-kind false false false true = refl
+access-kind false false false false = refl
 
-access-number : (n : ℕ) → hasAccess (kindOf n) ≡ (eqb n 1 || eqb n 2)
+pub access-number : (n : ℕ) → hasAccess (kindOf n) ≡ (eqb n 1 || eqb n 2)
 unfolding kindOf
-access-number n = access-kind (eqb n 1) (eqb n 2) (eqb n 3)
+access-number n = access-kind (eqb n 1) (eqb n 2) (eqb n 3) (eqb n 4)
 
 -- its data latency is above 0
 pub access-latency : (body : List ℕ) → bodyRefusal body ≡ 0 → Bytes body → (k : ℕ) → k < records body → hasAccess (instruction (traceOf body) k .kind) ≡ true → 0 < instruction (traceOf body) k .dataLatency

@@ -49,6 +49,15 @@ one-of-true n a b e = by (one-of-tests (eqb n a) (eqb n b) e)
     by (inl t) = inl (eqb-true n a t)
     by (inr t) = inr (eqb-true n b t)
 
+-- a kind that is neither a load nor a store has no data access
+others : (n : ℕ) → n ≤ 4 → (eqb n 1 || eqb n 2) ≡ false → (eqb n 0 || eqb n 3 || eqb n 4) ≡ true
+others zero l e = refl
+others (suc zero) l e = cc
+others (suc (suc zero)) l e = cc
+others (suc (suc (suc zero))) l e = refl
+others (suc (suc (suc (suc zero)))) l e = refl
+others (suc (suc (suc (suc (suc n))))) l e = absurd (omega arith)
+
 -- what holds for any bytes
 pub record Sized (f : Fields) : Type 0 where
   pub fetch : f .fetch < 4
@@ -70,7 +79,7 @@ sized bytes at b =
 
 -- what the rules add to that
 pub record Within (f : Fields) : Type 0 where
-  pub kind : f .kind ≤ 3
+  pub kind : f .kind ≤ 4
   pub fetch : f .fetch ≤ 2
   pub access : f .access ≤ 2
   pub source1 : f .source1 ≤ 31
@@ -79,7 +88,7 @@ pub record Within (f : Fields) : Type 0 where
   pub execution : f .execution ≤ 255
   pub fetchLatency : (1 ≤ f .«fetch_latency») × (f .«fetch_latency» ≤ 65535)
   pub dataLatency : f .«data_latency» ≤ 65535
-  pub no-access : OneOf (f .kind) 0 3 → (f .access ≡ 0) × (f .«data_latency» ≡ 0)
+  pub no-access : (eqb (f .kind) 1 || eqb (f .kind) 2) ≡ false → (f .access ≡ 0) × (f .«data_latency» ≡ 0)
   pub some-access : OneOf (f .kind) 1 2 → 1 ≤ f .«data_latency»
   pub no-target : OneOf (f .kind) 2 3 → f .target ≡ 0
 
@@ -129,11 +138,12 @@ module _ (f : Fields) (flags : ℕ) (lawful : breaksRules f flags ≡ false) whe
 
   pub within : Sized f → Within f
   within s =
+      let kind = ltb-false 4 (f .kind) (rules .0) in
       let fetch = eqb-false (f .fetch) 3 (flag-rules .0) in
       let access = eqb-false (f .access) 3 (flag-rules .1) in
       let fetch-latency = eqb-false (f .«fetch_latency») 0 (rules .5) in
       record {
-        kind = ltb-false 3 (f .kind) (rules .0);
+        kind = kind;
         fetch = omega arith;
         access = omega arith;
         source1 = registers-within .0;
@@ -143,8 +153,8 @@ module _ (f : Fields) (flags : ℕ) (lawful : breaksRules f flags ≡ false) whe
         fetchLatency = omega arith;
         dataLatency = omega arith;
         no-access =
-            λ k.
-            let none = one-of (f .kind) 0 3 k in
+            λ e.
+            let none = others (f .kind) kind e in
             (zero-where (noAccess f) (f .access) (rules .2) none, zero-where (noAccess f) (f .«data_latency») (data-rules .1) none);
         some-access = λ k. above-where (eqb (f .kind) 1 || eqb (f .kind) 2) (f .«data_latency») (data-rules .0) (one-of (f .kind) 1 2 k);
         no-target = λ k. zero-where (eqb (f .kind) 2 || eqb (f .kind) 3) (f .target) (rules .4) (one-of (f .kind) 2 3 k);

@@ -1,9 +1,10 @@
 -- What is shown of records, as named types.
 use Prim.Native.Nat.{ℕ}
-use mathlib.Core.Bool.{false}
+use mathlib.Core.Bool.{Bool, false, not, _||_, _&&_}
 use mathlib.Core.Path.{_≡_}
+use lib.Dec.{ltb, eqb}
 use Rattle.record.specs.Layout.{fieldsFrom, recordBytes, Fits}
-use Rattle.record.specs.Rules.{breaksRules}
+use Rattle.record.specs.Rules.{badFlags, badRegister, strayTarget, badFetchLatency, breaksRules}
 use Rattle.record.specs.declared.layout.Fields.{Fields}
 
 -- register 0 alone, hits, a fetch latency of 1
@@ -28,6 +29,43 @@ EachKindLawful =
     × (breaksRules (simplest 1 1) 0 ≡ false)
     × (breaksRules (simplest 2 1) 0 ≡ false)
     × (breaksRules (simplest 3 0) 0 ≡ false)
+    × (breaksRules (simplest 4 0) 0 ≡ false)
+
+-- the record with another kind
+abbrev ofKind : ℕ → Fields → Fields
+ofKind kind f =
+    record {
+      kind = kind;
+      fetch = f .fetch;
+      access = f .access;
+      source1 = f .source1;
+      source2 = f .source2;
+      target = f .target;
+      execution = f .execution;
+      «fetch_latency» = f .«fetch_latency»;
+      «data_latency» = f .«data_latency»;
+    }
+
+-- document 02, F-6: "Kind 4, a jump, has data bits and data latency 0 and may have a target.": it has the rules of a plain instruction
+abbrev pub JumpAsPlain : Type 0
+JumpAsPlain = (f : Fields) (flags : ℕ) → breaksRules (ofKind 4 f) flags ≡ breaksRules (ofKind 0 f) flags
+
+-- Document 01's rules alone: "Byte 0, kind: 0 plain, 1 load, 2 store, 3 conditional branch. [..] Kinds 0 and 3 have data bits 0. [..] data latency, 1 to
+-- 65,535 for kinds 1 and 2, and 0 for kinds 0 and 3."
+unfoldable pub breaksBefore : Fields → ℕ → Bool
+breaksBefore f flags =
+    ltb 3 (f .kind)
+    || badFlags f flags
+    || (eqb (f .kind) 0 || eqb (f .kind) 3) && not (eqb (f .access) 0)
+    || badRegister f
+    || strayTarget f
+    || badFetchLatency f
+    || ((eqb (f .kind) 1 || eqb (f .kind) 2) && eqb (f .«data_latency») 0
+    || (eqb (f .kind) 0 || eqb (f .kind) 3) && not (eqb (f .«data_latency») 0))
+
+-- They decide still, but for kind 4: nothing else that they declined is accepted, and nothing that they accepted is declined.
+abbrev pub RulesKept : Type 0
+RulesKept = (f : Fields) (flags : ℕ) → ¬ (f .kind ≡ 4) → breaksRules f flags ≡ breaksBefore f flags
 
 -- Fields that are written are read back.
 abbrev pub WrittenIsRead : Type 0

@@ -1,24 +1,24 @@
 -- Which records are within the rules, which have an unknown flag, and instructions as fields, both ways: document 01, "Job file and instruction
--- record".
+-- record", with document 02, F-6: "Kind 4, a jump, has data bits and data latency 0 and may have a target."
 use Prim.Native.Nat.{ℕ}
 use mathlib.Core.Bool.{Bool, not, cond, _||_, _&&_}
 use lib.Dec.{ltb, leb, eqb}
-use Rattle.machine.specs.Instruction.{Kind, plain, load, store, branch, Flag, hit, miss, unknown, Instruction}
+use Rattle.machine.specs.Instruction.{Kind, plain, load, store, branch, jump, Flag, hit, miss, unknown, Instruction}
 use Rattle.record.specs.declared.layout.Fields.{Fields}
 
--- "Byte 0, kind: 0 plain, 1 load, 2 store, 3 conditional branch."
+-- "Byte 0, kind: 0 plain, 1 load, 2 store, 3 conditional branch."; "Kind 4, a jump"
 abbrev pub badKind : Fields → Bool
-badKind f = ltb 3 (f .kind)
+badKind f = ltb 4 (f .kind)
 
 -- "0 hit, 1 miss, 2 unknown, 3 refused. Bits 4 to 7 are zero."
 abbrev pub badFlags : Fields → ℕ → Bool
 badFlags f flags = eqb (f .fetch) 3 || eqb (f .access) 3 || ltb 15 flags
 
--- "Kinds 0 and 3" have no data access
+-- "Kinds 0 and 3", and kind 4, have no data access
 abbrev pub noAccess : Fields → Bool
-noAccess f = eqb (f .kind) 0 || eqb (f .kind) 3
+noAccess f = eqb (f .kind) 0 || eqb (f .kind) 3 || eqb (f .kind) 4
 
--- "Kinds 0 and 3 have data bits 0."
+-- "Kinds 0 and 3 have data bits 0."; "Kind 4, a jump, has data bits [..] 0"
 abbrev pub strayAccess : Fields → Bool
 strayAccess f = noAccess f && not (eqb (f .access) 0)
 
@@ -26,7 +26,7 @@ strayAccess f = noAccess f && not (eqb (f .access) 0)
 abbrev pub badRegister : Fields → Bool
 badRegister f = ltb 31 (f .source1) || ltb 31 (f .source2) || ltb 31 (f .target)
 
--- "Kinds 2 and 3 have target 0."
+-- "Kinds 2 and 3 have target 0."; "a jump [..] may have a target"
 abbrev pub strayTarget : Fields → Bool
 strayTarget f = (eqb (f .kind) 2 || eqb (f .kind) 3) && not (eqb (f .target) 0)
 
@@ -34,7 +34,7 @@ strayTarget f = (eqb (f .kind) 2 || eqb (f .kind) 3) && not (eqb (f .target) 0)
 abbrev pub badFetchLatency : Fields → Bool
 badFetchLatency f = eqb (f .«fetch_latency») 0
 
--- "data latency, 1 to 65,535 for kinds 1 and 2, and 0 for kinds 0 and 3"
+-- "data latency, 1 to 65,535 for kinds 1 and 2, and 0 for kinds 0 and 3"; "Kind 4, a jump, has [..] data latency 0"
 abbrev pub badDataLatency : Fields → Bool
 badDataLatency f =
     (eqb (f .kind) 1 || eqb (f .kind) 2) && eqb (f .«data_latency») 0 || noAccess f && not (eqb (f .«data_latency») 0)
@@ -53,13 +53,14 @@ notAbove f h = (eqb (f .kind) 1 || eqb (f .kind) 2) && leb (f .«data_latency»)
 
 -- The kind or flag of a number, and the number of a kind or flag. A number that the rules refuse reads as plain or as unknown.
 unfoldable pub kindOf : ℕ → Kind
-kindOf n = cond (eqb n 1) load (cond (eqb n 2) store (cond (eqb n 3) branch plain))
+kindOf n = cond (eqb n 1) load (cond (eqb n 2) store (cond (eqb n 3) branch (cond (eqb n 4) jump plain)))
 
 abbrev pub kindNumber : Kind → ℕ
 kindNumber plain = 0
 kindNumber load = 1
 kindNumber store = 2
 kindNumber branch = 3
+kindNumber jump = 4
 
 unfoldable pub flagOf : ℕ → Flag
 flagOf n = cond (eqb n 0) hit (cond (eqb n 1) miss unknown)

@@ -111,12 +111,12 @@ module _ (flags source1 source2 target execution fetchLatency dataLatency : ℕ)
 
   by-kind
       : (kind : ℕ) →
-      (ltb 3 kind
+      (ltb 4 kind
       || ltb (cond (eqb kind 1 || eqb kind 2) 10 2) flags
       || eqb (flags % 4) 3
       || ltb 31 source1
       || ltb 31 source2
-      || ltb (cond (ltb 1 kind) 0 31) target
+      || ltb (cond (eqb kind 2 || eqb kind 3) 0 31) target
       || eqb fetchLatency 0
       || Bool·beq (eqb kind 1 || eqb kind 2) (eqb dataLatency 0))
       ≡ breaksRules (fields kind) flags
@@ -126,7 +126,9 @@ module _ (flags source1 source2 target execution fetchLatency dataLatency : ℕ)
   by-kind (suc (suc zero)) = joined false (not (eqb target 0)) (data-flags flags) (no-target target) (beq-true (eqb dataLatency 0))
   by-kind (suc (suc (suc zero))) =
       joined (not (eqb (flags / 4 % 4) 0)) (not (eqb target 0)) (no-data-flags flags) (no-target target) (beq-false (eqb dataLatency 0))
-  by-kind (suc (suc (suc (suc n)))) = rw (lt-ltb 3 (suc (suc (suc (suc n)))) (omega arith))
+  by-kind (suc (suc (suc (suc zero)))) =
+      joined (not (eqb (flags / 4 % 4) 0)) false (no-data-flags flags) (sym (or-false (ltb 31 target))) (beq-false (eqb dataLatency 0))
+  by-kind (suc (suc (suc (suc (suc n))))) = rw (lt-ltb 4 (suc (suc (suc (suc (suc n))))) (omega arith))
 
 -- the code's test is the rules', for the fields and the flags byte of a record
 pub limits
@@ -134,8 +136,8 @@ pub limits
     f ≡ fieldsFrom bytes at →
     flags ≡ byte bytes (at + flagsAt) →
     most-flags ≡ cond (eqb (f .kind) 1 || eqb (f .kind) 2) 10 2 →
-    most-target ≡ cond (ltb 1 (f .kind)) 0 31 →
-    (ltb 3 (f .kind)
+    most-target ≡ cond (eqb (f .kind) 2 || eqb (f .kind) 3) 0 31 →
+    (ltb 4 (f .kind)
     || ltb most-flags flags
     || eqb (f .fetch) 3
     || ltb 31 (f .source1)

@@ -33,12 +33,13 @@ pub fn breaks_rules(bytes: &[u8], at: usize) -> bool
     let f = fields_from(bytes, at);
     let kind = f.kind;
     let memory = (kind == 1) | (kind == 2);
-    (kind > 3)
+    let no_target = (kind == 2) | (kind == 3);
+    (kind > 4)
         | (flags > limit(memory, 10, 2))
         | (f.fetch == 3)
         | (f.source1 > 31)
         | (f.source2 > 31)
-        | (f.target > limit(kind > 1, 0, 31))
+        | (f.target > limit(no_target, 0, 31))
         | (f.fetch_latency == 0)
         | (memory == (f.data_latency == 0))
 }

@@ -1,20 +1,18 @@
 -- What a pass over an accepted body needs: the trace's bound is within the limit, and at each instruction the functions of this crate may be called and
 -- lead to the next.
-use Prim.Native.Nat.{ℕ, zero, suc, _+_, _≤_, _<_}
+use Prim.Native.Nat.{ℕ, _+_, _≤_, _<_}
 use mathlib.Core.List.{List}
 use mathlib.Core.Bool.{Bool, true, false, cond}
-use mathlib.Core.Logic.{inl, inr}
-use mathlib.Core.Path.{_≡_, refl, sym, ap, subst, _∙_}
+use mathlib.Core.Logic.{inr}
+use mathlib.Core.Path.{_≡_, sym, ap, subst, _∙_}
 use native.Mathlib.Omega.{arith}
 use borrow.Author.Tests.{lt-ltb, eqb-true}
 use lib.ListN.{length}
 use Rattle.machine.specs.Instruction.{Flag, Instruction, Trace, instruction}
-use Rattle.machine.specs.Rules.{isLoad, isStore, hasAccess, entry}
-use Rattle.machine.specs.Hits.{withHit, withHits}
-use Rattle.machine.specs.Test.{_or_}
+use Rattle.machine.specs.Rules.{isStore, hasAccess, entry}
+use Rattle.machine.specs.Hits.{withHit}
 use Rattle.machine.specs.Time.{bound, maxTime, settleFlag, settleInstruction, settle}
 use Rattle.machine.proofs.Bounds.{Limited, bound-limited}
-use Rattle.machine.proofs.Connectives.{clash}
 use Rattle.machine.proofs.Finish.{finish-bounded}
 use Rattle.machine.proofs.Hits.{length-hits, instruction-hits, settle-hits}
 use Rattle.machine.proofs.Window.{Window, Times, timesFrom, slide, windowBefore, timesAt}
@@ -23,7 +21,7 @@ use Rattle.record.specs.declared.layout.Fields.{Fields}
 use Rattle.record.specs.declared.layout.Read.{Read}
 use Rattle.record.specs.Rules.{kindOf, flagOf, instructionOf}
 use Rattle.record.specs.Body.{Bytes, records, fieldsAt, firsts, traceOf, traceWith, maxHitCycles, bodyRefusal, timedRefusal, readAnswer}
-use Rattle.record.proofs.Accepted.{few-records, fields-within, timed-accepted, timed-hits, few-cycles}
+use Rattle.record.proofs.Accepted.{access-number, few-records, fields-within, timed-accepted, timed-hits, few-cycles}
 use Rattle.record.proofs.Instructions.{length-traceOf, instruction-traceOf}
 use Rattle.record.proofs.Within.{OneOf, Within}
 use Rattle.schedule.specs.Claims.{FinishWithin}
@@ -48,14 +46,6 @@ within-limited to h f w few =
     }
 
 -- a lawful record stands for an instruction whose access is lawful, settled or not
-no-access-kind : (n : ℕ) → n ≤ 3 → (isLoad (kindOf n) or isStore (kindOf n)) ≡ false → OneOf n 0 3
-unfolding kindOf _or_
-no-access-kind zero l e = inl refl
-no-access-kind (suc zero) l e = clash refl e
-no-access-kind (suc (suc zero)) l e = clash refl e
-no-access-kind (suc (suc (suc zero))) l e = inr refl
-no-access-kind (suc (suc (suc (suc n)))) l e = absurd (omega arith)
-
 store-kind : (n : ℕ) → isStore (kindOf n) ≡ true → OneOf n 1 2
 store-kind n e = inr (eqb-true n 2 (store-number n ∙ e))
 
@@ -63,7 +53,7 @@ within-lawful : (f : Fields) → Within f → AccessLawful (instructionOf f)
 unfolding instructionOf flagOf
 within-lawful f w =
     record {
-      no-access = λ e. ap flagOf (w .no-access (no-access-kind (f .kind) (w .kind) e) .0);
+      no-access = λ e. ap flagOf (w .no-access (sym (access-number (f .kind)) ∙ e) .0);
       some-access = λ e. w .some-access (store-kind (f .kind) e);
     }
 

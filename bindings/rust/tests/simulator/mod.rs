@@ -10,6 +10,7 @@ pub const PLAIN: u8 = 0;
 pub const LOAD: u8 = 1;
 pub const STORE: u8 = 2;
 pub const BRANCH: u8 = 3;
+pub const JUMP: u8 = 4;
 pub const HIT: u8 = 0;
 pub const MISS: u8 = 1;
 pub const UNKNOWN: u8 = 2;
@@ -67,7 +68,7 @@ pub fn decode(body: &[u8]) -> Vec<Instruction> {
 fn lawful(b: &[u8]) -> bool {
     let i = Instruction::read(b);
     let memory = i.kind == LOAD || i.kind == STORE;
-    i.kind <= 3
+    i.kind <= JUMP
         && b[1] < 16
         && i.fetch != 3
         && i.access != 3
@@ -75,7 +76,7 @@ fn lawful(b: &[u8]) -> bool {
         && i.source1 < 32
         && i.source2 < 32
         && i.target < 32
-        && (i.kind <= LOAD || i.target == 0)
+        && (i.target == 0 || i.kind != STORE && i.kind != BRANCH)
         && i.fetch_latency >= 1
         && (i.data_latency >= 1) == memory
 }
@@ -147,7 +148,7 @@ fn short_of(p: Place, stage: Stage) -> bool {
 }
 
 /// The following stage, in the order of the lines of stage' in Figure 5. "Stages run pre, IF, ID, EX, MEM, then ST for a store or WB for
-/// any other kind, then post." The figure's nop is no kind of document 01.
+/// any other kind, then post." The figure's nop is no kind of document 01; a jump "goes on through WB" (document 02, F-6).
 fn next(i: &Instruction, stage: Stage) -> Stage {
     match (stage, i.kind) {
         // post after ST, where only a store ever stands
@@ -155,15 +156,18 @@ fn next(i: &Instruction, stage: Stage) -> Stage {
         (St, LOAD) => Post,
         (St, STORE) => Post,
         (St, BRANCH) => Post,
+        (St, JUMP) => Post,
         // post after WB, where a store never stands
         (Wb, PLAIN) => Post,
         (Wb, LOAD) => Post,
         (Wb, STORE) => Post,
         (Wb, BRANCH) => Post,
+        (Wb, JUMP) => Post,
         // WB after MEM for what is no store
         (Mem, PLAIN) => Wb,
         (Mem, LOAD) => Wb,
         (Mem, BRANCH) => Wb,
+        (Mem, JUMP) => Wb,
         // ST after MEM for a store
         (Mem, STORE) => St,
         // MEM after EX
@@ -171,26 +175,31 @@ fn next(i: &Instruction, stage: Stage) -> Stage {
         (Ex, LOAD) => Mem,
         (Ex, STORE) => Mem,
         (Ex, BRANCH) => Mem,
+        (Ex, JUMP) => Mem,
         // EX after ID
         (Id, PLAIN) => Ex,
         (Id, LOAD) => Ex,
         (Id, STORE) => Ex,
         (Id, BRANCH) => Ex,
+        (Id, JUMP) => Ex,
         // ID after IF
         (If, PLAIN) => Id,
         (If, LOAD) => Id,
         (If, STORE) => Id,
         (If, BRANCH) => Id,
+        (If, JUMP) => Id,
         // IF after pre
         (Pre, PLAIN) => If,
         (Pre, LOAD) => If,
         (Pre, STORE) => If,
         (Pre, BRANCH) => If,
+        (Pre, JUMP) => If,
         // the figure has no line for post: "an instruction in post stays there"
         (Post, PLAIN) => Post,
         (Post, LOAD) => Post,
         (Post, STORE) => Post,
         (Post, BRANCH) => Post,
+        (Post, JUMP) => Post,
         (_, kind) => unreachable!("{kind} is no kind, and no accepted trace has it"),
     }
 }
@@ -209,14 +218,16 @@ fn entry(i: &Instruction, stage: Stage, hit_cycles: u32) -> u32 {
 }
 
 /// Document 01's sentences on being ready, and document 02's: "a store waits in ID for its first source only, and in EX for its
-/// second". In both stages it waits for an older load short of (MEM, 0), and for register 0 never.
+/// second". In both stages it waits for an older load short of (MEM, 0), and for register 0 never. A jump "holds back later fetches
+/// as a branch does, until it stands at (EX, 0)".
 fn ready(trace: &[Instruction], places: &[Place], i: usize) -> bool {
     let me = &trace[i];
     let pending = |kind: u8, stage: Stage| (0..i).any(|j| trace[j].kind == kind && short_of(places[j], stage));
     let awaited = |source: u8| source != 0 && (0..i).any(|j| trace[j].kind == LOAD && trace[j].target == source && short_of(places[j], Mem));
     let store = me.kind == STORE;
     match places[i].stage {
-        Pre => (0..i).all(|j| places[j].stage != Pre) && !pending(BRANCH, Ex) && (me.fetch == HIT || !pending(LOAD, Mem) && !pending(STORE, St)),
+        Pre if (0..i).any(|j| places[j].stage == Pre) || pending(BRANCH, Ex) || pending(JUMP, Ex) => false,
+        Pre => me.fetch == HIT || !pending(LOAD, Mem) && !pending(STORE, St),
         Id => !awaited(me.source1) && (store || !awaited(me.source2)),
         Ex => (me.access != MISS || !pending(STORE, St)) && !(store && awaited(me.source2)),
         _ => true,

@@ -4,6 +4,7 @@ use sic::{Slot, State};
 const LOAD: u8 = 1;
 const STORE: u8 = 2;
 const BRANCH: u8 = 3;
+const JUMP: u8 = 4;
 
 #[derive(Clone, Copy)]
 struct Instruction {
@@ -76,12 +77,12 @@ impl Instruction {
 fn broken(b: &[u8]) -> bool {
     let i = read(b);
     let memory = (i.kind == LOAD) | (i.kind == STORE);
-    (i.kind > BRANCH)
+    (i.kind > JUMP)
         | (b[1] > if memory { 10 } else { 2 })
         | (i.fetch == 3)
         | (i.source1 > 31)
         | (i.source2 > 31)
-        | (i.target > if i.kind > LOAD { 0 } else { 31 })
+        | (i.target > if (i.kind == STORE) | (i.kind == BRANCH) { 0 } else { 31 })
         | (i.fetch_latency == 0)
         | (memory == (i.data_latency == 0))
 }
@@ -143,7 +144,7 @@ fn settled_check(body: &[u8], hit_cycles: u32) -> u32 {
     11 * unknown as u32
 }
 
-/// With the last branch and the finish so far, as one would write it first; the engine's needs neither.
+/// With the last branch or jump and the finish so far, as one would write it first; the engine's needs neither.
 #[derive(Clone, Copy, Default)]
 struct Window {
     id: u32,
@@ -176,7 +177,7 @@ fn slide(w: &mut Window, i: &Instruction, e: &[u32; 6]) {
     [w.id, w.ex, w.mem, w.last] = [e[1], e[2], e[3], e[4]];
     w.load_target = 0;
     match i.kind {
-        BRANCH => w.branch_done = e[2] + i.execution + 1,
+        BRANCH | JUMP => w.branch_done = e[2] + i.execution + 1,
         LOAD => {
             w.load_done = e[4];
             w.load_target = i.target;
@@ -293,7 +294,7 @@ fn pending(i: &Instruction, level: u32, count: u32) -> bool {
     let goal = match i.kind {
         LOAD => 4,
         STORE => 5,
-        BRANCH => 3,
+        BRANCH | JUMP => 3,
         _ => 0,
     };
     level < goal || level == goal && count > 0
@@ -311,7 +312,7 @@ fn held_back(body: &[u8], s: &State, level: u32, k: u32) -> bool {
             && slot.index < k
             && pending(&j, l, slot.count)
             && match level {
-                0 => j.kind == BRANCH || i.fetch != 0,
+                0 => j.kind == BRANCH || j.kind == JUMP || i.fetch != 0,
                 2 => j.kind == LOAD && i.reads_in_id(j.target),
                 _ => j.kind == STORE && i.access == 1,
             }
