@@ -114,7 +114,7 @@ fn whole_bodies() {
 
 #[test]
 fn refused_bodies() {
-    let body = traces::random(5, 8, 2, 0);
+    let body = traces::random(9, 8, 2, 0);
     assert!((0..5).all(|kind| body.chunks_exact(RECORD_SIZE).any(|b| b[0] == kind)), "a kind is missing");
     answers_alike(&body[..body.len() - 1], 0);
     answers_alike(&traces::plain(sic::MAX_INSTRUCTIONS + 1), 0);
