@@ -278,7 +278,7 @@ fn data_hits_that_take_cycles() {
         ("a load, then a missed fetch", vec![load, late], [20, 23, 35]),
         ("a missed load", vec![memory(LOAD, MISS, 20)], [26, 26, 26]),
         ("a missed store, then a hit", vec![memory(STORE, MISS, 20), store], [26, 29, 41]),
-        ("neither load nor store", vec![plain(), Instruction { kind: BRANCH, ..plain() }], [7, 7, 7]),
+        ("neither load nor store", vec![plain(), Instruction { kind: BRANCH, ..plain() }, Instruction { kind: JUMP, ..plain() }], [10, 10, 10]),
     ];
     for (name, trace, times) in cases {
         for (hit_cycles, time) in [0, 3, 15].into_iter().zip(times) {
@@ -345,11 +345,14 @@ fn a_state_holds_a_jump() {
     let held = |count| sic::Slot { filled: true, index: 0, count };
     let fetched = State { fetched: 1, ..State::start() };
     for h in [0, 15] {
+        assert_eq!(stepped(&body, State { IF: held(0), ..fetched }, h), Ok(State { ID: held(0), ..fetched }), "hits of {h}");
+        assert_eq!(stepped(&body, State { ID: held(0), ..fetched }, h), Ok(State { EX: held(2), ..fetched }), "hits of {h}");
         assert_eq!(stepped(&body, State { EX: held(2), ..fetched }, h), Ok(State { EX: held(1), ..fetched }), "hits of {h}");
         assert_eq!(stepped(&body, State { EX: held(0), ..fetched }, h), Ok(State { MEM: held(0), ..fetched }), "hits of {h}");
         assert_eq!(stepped(&body, State { MEM: held(0), ..fetched }, h), Ok(State { WB: held(0), ..fetched }), "hits of {h}");
         assert_eq!(stepped(&body, State { WB: held(0), ..fetched }, h), Ok(fetched), "hits of {h}");
-        for state in [State { EX: held(3), ..fetched }, State { MEM: held(1), ..fetched }, State { ST: held(0), ..fetched }] {
+        let counts = [State { IF: held(1), ..fetched }, State { ID: held(1), ..fetched }, State { EX: held(3), ..fetched }];
+        for state in counts.into_iter().chain([State { MEM: held(1), ..fetched }, State { ST: held(0), ..fetched }]) {
             assert_eq!(stepped(&body, state, h), Err(12), "{state:?}, hits of {h}");
         }
     }

@@ -53,12 +53,12 @@ HitsOnBus =
     map (λ h. busAnswer (bodyOf missAndHit) 10 h) (0 ∷ 3 ∷ 15 ∷ 16 ∷ [])
     ≡ given 1 33 ∷ given 1 36 ∷ given 1 48 ∷ record { refusal = 17; accesses = 0; time = 0 } ∷ []
 
--- document 02, F-6: a jump's fetch is counted, and it has no data access; with a wait of 10. Of its cases four have no missed or unknown access, then
--- the fetch behind a jump misses, is unknown, and the jump's own misses; the jump behind a jump and the one that waits for a load hit have none, and
--- the other three the load's or the store's.
+-- document 02, F-6: a jump's fetch is counted; with a wait of 10. Of its cases four have no missed or unknown access, then the fetch behind a jump
+-- misses, is unknown, and the jump's own misses; the jump behind a jump and the two that wait for a load hit have none, and the other three the load's
+-- or the store's.
 abbrev pub JumpsOnBus : Type 0
 JumpsOnBus =
-    map (λ c. busAnswer (bodyOf (c .trace)) 10 0) jumps
+    map (λ c. busAnswer (bodyOf (c .trace)) 10 (c .hits)) jumps
     ≡ given 0 9
     ∷ given 0 11
     ∷ given 0 9
@@ -68,6 +68,7 @@ JumpsOnBus =
     ∷ given 1 29
     ∷ given 0 12
     ∷ given 0 8
+    ∷ given 0 11
     ∷ given 1 28
     ∷ given 1 25
     ∷ given 1 28

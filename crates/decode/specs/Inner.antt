@@ -1,4 +1,5 @@
--- The record rules that the times rest on: "Kinds 0 and 3 have data bits 0", and "data latency, 1 to 65,535 for kinds 1 and 2".
+-- The record rules that the times rest on: "Kinds 0 and 3 have data bits 0", "Kind 4, a jump, has data bits [..] 0", and "data latency, 1 to 65,535 for
+-- kinds 1 and 2".
 use Prim.Native.Nat.{_≤_}
 use mathlib.Core.Bool.{true, false}
 use mathlib.Core.Path.{_≡_}

@@ -1,4 +1,4 @@
--- A to L are accepted as bodies, and D's body has the bytes that document 01 prints: by computation.
+-- A to L and the further cases are accepted as bodies, and D's body has the bytes that document 01 prints: by computation.
 use mathlib.Core.Path.{refl}
 use Rattle.machine.specs.Test.{_and_, every, none}
 use Rattle.machine.specs.Cases.{cases, further, lateValues, hitCases, jumps, caseD}

@@ -14,14 +14,6 @@ use Rattle.record.specs.Rules.{kindOf, kindNumber, flagOf, flagNumber}
 use Rattle.record.proofs.Within.{or-false}
 
 -- written, then read
-pub kindOf-number : (k : Kind) → kindOf (kindNumber k) ≡ k
-unfolding kindOf
-kindOf-number plain = refl
-kindOf-number load = refl
-kindOf-number store = refl
-kindOf-number branch = refl
-kindOf-number jump = refl
-
 pub flagOf-number : (g : Flag) → flagOf (flagNumber g) ≡ g
 unfolding flagOf
 flagOf-number hit = refl

@@ -18,11 +18,12 @@ use Rattle.record.specs.declared.layout.Fields.{Fields}
 use Rattle.encoding.specs.Encoding.{recordOf, bodyOf}
 use Rattle.encoding.specs.Claims.{AcceptedIsEncoded, EncodingIsDecoded}
 use Rattle.record.proofs.Alike.{fields-alike}
+use Rattle.record.proofs.Lawful.{kind-is-read}
 use Rattle.record.proofs.Accepted.{accepted-of, whole-records, flags-byte, fields-within}
 use Rattle.record.proofs.Instructions.{getD-firsts, length-traceOf, instruction-traceOf}
 use Rattle.encoding.proofs.Encoding.{length-bodyOf, records-bodyOf, byte-bodyOf}
 use Rattle.encoding.proofs.Fits.{encoding-is-bytes}
-use Rattle.encoding.proofs.Numbers.{kindOf-number, flagOf-number, number-kindOf, number-flagOf, flags-of-parts}
+use Rattle.encoding.proofs.Numbers.{flagOf-number, number-kindOf, number-flagOf, flags-of-parts}
 use Rattle.encoding.proofs.Record.{fields-of}
 use Rattle.little_endian.proofs.Halves.{low-of-half, high-of-half}
 use Rattle.record.proofs.Within.{Within}
@@ -79,12 +80,12 @@ decoded : (h : ℕ) (i : Instruction) → withHit h (instructionOf (fieldsFrom (
 unfolding fieldsOf instructionOf
 decoded h i =
     ap (λ (f : Fields). withHit h (instructionOf f)) (fields-of i)
-    ∙ rw (kindOf-number (i .kind), flagOf-number (i .fetch), flagOf-number (i .access))
+    ∙ rw (kind-is-read (i .kind), flagOf-number (i .fetch), flagOf-number (i .access))
 
 decoded-none : (i : Instruction) → i .hitCycles ≡ 0 → instructionOf (fieldsFrom (recordOf i) 0) ≡ i
 unfolding fieldsOf instructionOf
 decoded-none i none =
-    ap instructionOf (fields-of i) ∙ rw (kindOf-number (i .kind), flagOf-number (i .fetch), flagOf-number (i .access), none)
+    ap instructionOf (fields-of i) ∙ rw (kind-is-read (i .kind), flagOf-number (i .fetch), flagOf-number (i .access), none)
 
 module _ (trace : Trace) (k : ℕ) (l : k < length trace) where
   record-byte : (j : ℕ) → j < recordSize → byte (bodyOf trace) (k * recordSize + j) ≡ byte (recordOf (instruction trace k)) (0 + j)

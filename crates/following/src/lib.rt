@@ -1,7 +1,6 @@
 // The stage that comes after another: `stage'(i)` of Figure 5, a case for each stage and kind, in the
-// figure's order. The lines above the functions are the figure's; no kind here is its nop, and a jump,
-// which the figure does not have, goes where any kind but a store goes. The comment beside a case names
-// the case of the definition that it is.
+// figure's order. The lines above the functions are the figure's, which has a nop and no jump. The
+// comment beside a case names the case of the definition that it is.
 ghost use mathlib.Core.Path.{_≡_};
 ghost use Rattle.machine.specs.Rules.{next, pre, IF, ID, EX, MEM, ST, WB, post};
 ghost use Rattle.machine.specs.Named.{kindNamed, stageNamed};

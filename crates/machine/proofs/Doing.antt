@@ -1,4 +1,5 @@
--- What an instruction does, by its kind. The theory goes by these facts alone, so that a kind more is a line in each and no case in a proof.
+-- What an instruction does, by its kind. The theory of the rules goes by these facts alone, so that a kind more is a line in each and no case in its
+-- proofs.
 use mathlib.Core.Bool.{Bool, true, false, not, cond}
 use mathlib.Core.Path.{_≡_, refl, ap, _∙_}
 use Rattle.machine.specs.Instruction.{Kind, plain, load, store, branch, jump}

@@ -1,4 +1,4 @@
--- When an instruction is fetched: of the older ones, the closed form needs only the one directly before, and the last branch, load and store.
+-- When an instruction is fetched: of the older ones, the closed form needs only the one directly before, and the last that holds fetches back, load and store.
 use Prim.Native.Nat.{ℕ, _≤_, _<_, max}
 use mathlib.Core.Bool.{Bool, true, false, not, cond, false≢true}
 use mathlib.Core.Path.{_≡_, refl, sym, ap, subst, _∙_}
@@ -39,9 +39,9 @@ module _ (trace : Trace) where
   abbrev b : Behaviour
   b = behaviour trace
 
-  -- when the last branch, load and store before k are done
-  unfoldable pub branches : ℕ → ℕ
-  branches k = lastDone b (λ j. holdsFetches (instruction trace j .kind)) 3 k
+  -- when the last that holds fetches back, load and store before k are done
+  unfoldable pub holders : ℕ → ℕ
+  holders k = lastDone b (λ j. holdsFetches (instruction trace j .kind)) 3 k
 
   unfoldable pub loads : ℕ → ℕ
   loads k = lastDone b (λ j. isLoad (instruction trace j .kind)) 4 k
@@ -49,9 +49,9 @@ module _ (trace : Trace) where
   unfoldable pub stores : ℕ → ℕ
   stores k = lastDone b (λ j. isStore (instruction trace j .kind)) 5 k
 
-  branch-done : (k j : ℕ) → j < k → holdsFetches (instruction trace j .kind) ≡ true → done b j 3 ≤ branches k
-  unfolding branches
-  branch-done = le-last-done b (λ j. holdsFetches (instruction trace j .kind)) 3 (omega arith) (λ i j p q. shares-early b i j 3 (omega arith))
+  holder-done : (k j : ℕ) → j < k → holdsFetches (instruction trace j .kind) ≡ true → done b j 3 ≤ holders k
+  unfolding holders
+  holder-done = le-last-done b (λ j. holdsFetches (instruction trace j .kind)) 3 (omega arith) (λ i j p q. shares-early b i j 3 (omega arith))
 
   pub load-done : (k j : ℕ) → j < k → isLoad (instruction trace j .kind) ≡ true → done b j 4 ≤ loads k
   unfolding loads
@@ -83,8 +83,8 @@ module _ (trace : Trace) where
 
   pub at-IF : (k : ℕ) →
       enters b k 1
-      ≡ max (max 1 (previous b k 2)) (max (branches k) (cond (hits (instruction trace k .fetch)) 0 (max (loads k) (stores k))))
-  unfolding branches behaviour waitsFor goal
+      ≡ max (max 1 (previous b k 2)) (max (holders k) (cond (hits (instruction trace k .fetch)) 0 (max (loads k) (stores k))))
+  unfolding holders behaviour waitsFor goal
   at-IF k =
       le-antisymm
       (least b k 0 _
@@ -92,8 +92,8 @@ module _ (trace : Trace) where
       (λ j l e. let p = le-previous b k j 1 l (omega arith) (omega arith) in omega arith)
       (λ j l.
       let p = waits-within 0 (instruction trace k) (instruction trace j) (done b j) _ (let o = done-pre b j in omega arith)
-      (pre-within (does (instruction trace j .kind)) (hits (instruction trace k .fetch)) (done b j) (branches k) (loads k) (stores k)
-      (branch-done k j l) (load-done k j l) (store-done k j l) (done-pre b j)) in
+      (pre-within (does (instruction trace j .kind)) (hits (instruction trace k .fetch)) (done b j) (holders k) (loads k) (stores k)
+      (holder-done k j l) (load-done k j l) (store-done k j l) (done-pre b j)) in
       omega arith))
       (max-le
       (max-le (let p = own b k 0 in let q = done-pre b k in omega arith) (previous-le b k 1 (omega arith) (omega arith)))

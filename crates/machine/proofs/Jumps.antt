@@ -1,15 +1,18 @@
 -- With branches in place of its jumps a trace goes on as it did: the rules ask of a kind only what a jump and a branch share, and of a target only
 -- where a load has it.
-use Prim.Native.Nat.{ℕ, zero, suc, _+_, _-_}
+use Prim.Native.Nat.{ℕ, zero, suc, _+_, _-_, _*_}
 use mathlib.Core.Bool.{Bool, not, cond}
 use mathlib.Core.List.{[], _∷_}
 use mathlib.Core.Path.{_≡_, refl, sym, ap, ap₂, _∙_}
-use lib.Dec.{eqb}
+use lib.Dec.{ltb, leb, eqb}
 use lib.ListN.{length}
 use Rattle.machine.specs.Test.{_and_, _or_, every, none}
-use Rattle.machine.specs.Instruction.{Kind, plain, load, store, branch, jump, Flag, Instruction, Trace, instruction}
+use Rattle.machine.specs.Instruction.{Kind, plain, load, store, branch, jump, Flag, hit, miss, Instruction, Trace, instruction}
 use Rattle.machine.specs.Rules.{Stage, pre, IF, ID, EX, MEM, ST, WB, post, Places, next, same, shortOf, isLoad, isStore, hasAccess, holdsFetches, hits, misses, entry, noOlder, carries, readsInID, readsInEX, noLoadInto, missesData, readyIn, ready, budget, movesWithin, willBeFreeWithin, moves, cycle, after, allLeft}
 use Rattle.machine.specs.Time.{bound, leastFrom, finish, settleInstruction, settle, best, worst}
+use Rattle.machine.specs.Bus.{countsFetch, countsData, accessesOf, accesses, busTime}
+use Rattle.machine.specs.State.{slot, younger, orderly}
+use Rattle.machine.specs.declared.State.{State}
 use Rattle.machine.specs.Jumps.{branchKind, branchTarget, asBranch, asBranches}
 use Rattle.machine.specs.Claims.{JumpsAsBranches}
 use Rattle.machine.proofs.Doing.{nextIn, next-in}
@@ -39,8 +42,8 @@ stores jump = refl
 next-same : (k : Kind) (s : Stage) → next (branchKind k) s ≡ next k s
 next-same k s = next-in (branchKind k) s ∙ ap (λ (lane : Bool). nextIn lane s) (stores k) ∙ sym (next-in k s)
 
-accesses : (k : Kind) → hasAccess (branchKind k) ≡ hasAccess k
-accesses k = λ t. loads k t or stores k t
+accesses-of : (k : Kind) → hasAccess (branchKind k) ≡ hasAccess k
+accesses-of k = λ t. loads k t or stores k t
 
 -- of a target only where a load has it
 load-into : (k : Kind) (x : Bool) (test : ℕ → Bool) (target : ℕ) → (isLoad (branchKind k) and x and test (branchTarget k target)) ≡ (isLoad k and x and test target)
@@ -73,7 +76,7 @@ reads-in-EX i = λ t register. stores (i .kind) t and carries (i .source2) regis
 
 misses-data : (i : Instruction) → missesData (asBranch i) ≡ missesData i
 unfolding missesData
-misses-data i = λ t. accesses (i .kind) t and misses (i .access)
+misses-data i = λ t. accesses-of (i .kind) t and misses (i .access)
 
 instruction-as : (trace : Trace) (k : ℕ) → instruction (asBranches trace) k ≡ asBranch (instruction trace k)
 unfolding asBranches
@@ -90,13 +93,19 @@ bound-as : (trace : Trace) → bound (asBranches trace) ≡ bound trace
 unfolding bound asBranches
 bound-as [] = refl
 bound-as (i ∷ trace) = λ t.
-    (6 + i .executionLatency + i .fetchLatency + cond (accesses (i .kind) t) (cond (misses (i .access)) (i .dataLatency) (i .hitCycles)) 0)
+    (6 + i .executionLatency + i .fetchLatency + cond (accesses-of (i .kind) t) (cond (misses (i .access)) (i .dataLatency) (i .hitCycles)) 0)
     + bound-as trace t
 
 settle-as : (to : Flag) (trace : Trace) → settle to (asBranches trace) ≡ asBranches (settle to trace)
 unfolding settle settleInstruction asBranches
 settle-as to [] = refl
 settle-as to (i ∷ trace) = ap₂ _∷_ refl (settle-as to trace)
+
+accesses-as : (trace : Trace) → accesses (asBranches trace) ≡ accesses trace
+unfolding accesses accessesOf countsFetch countsData asBranches
+accesses-as [] = refl
+accesses-as (i ∷ trace) = λ t.
+    cond (not (hits (i .fetch))) 1 0 + cond (accesses-of (i .kind) t and not (hits (i .access))) 1 0 + accesses-as trace t
 
 module _ (trace : Trace) where
   abbrev there : Trace
@@ -114,6 +123,9 @@ module _ (trace : Trace) where
 
   stores-at : (j : ℕ) → isStore (instruction there j .kind) ≡ isStore (instruction trace j .kind)
   stores-at = at (λ i. isStore (i .kind)) (λ i. stores (i .kind))
+
+  entry-at : (j : ℕ) (s : Stage) → entry (instruction there j) s ≡ entry (instruction trace j) s
+  entry-at j s = at (λ i. entry i s) (λ i. entry-same i s) j
 
   module _ (places : Places) where
     -- who is ready
@@ -167,9 +179,39 @@ module _ (trace : Trace) where
         cond (moves-within (budget (places i .stage)) i t)
         (record {
           stage = next-at i (places i .stage) t;
-          count = at (λ k. entry k (next-at i (places i .stage) t)) (λ k. entry-same k (next-at i (places i .stage) t)) i t;
+          count = entry-at i (next-at i (places i .stage) t) t;
         })
         (record { stage = places i .stage; count = places i .count - 1 })
+
+  -- which states are orderly
+  module _ (s : State) where
+    abbrev inTurn : Stage → Bool
+    inTurn stage = not (slot s stage .filled) or eqb (slot s stage .index + younger s stage + 1) (s .fetched)
+
+    abbrev counted : (ℕ → Stage → ℕ) → Stage → Bool
+    counted most stage =
+        cond (slot s stage .filled)
+        (leb (slot s stage .count) (most (slot s stage .index) stage))
+        (eqb (slot s stage .index) 0 and eqb (slot s stage .count) 0)
+
+    orderly-as : orderly there s ≡ orderly trace s
+    unfolding orderly
+    orderly-as = λ t.
+        leb (s .fetched) (length-as trace t)
+        and inTurn IF
+        and inTurn ID
+        and inTurn EX
+        and inTurn MEM
+        and inTurn WB
+        and (not (s .WB .filled) or not (stores-at (s .WB .index) t))
+        and (not (s .ST .filled) or ltb (s .ST .index + younger s ST) (s .fetched))
+        and (not (s .ST .filled) or stores-at (s .ST .index) t)
+        and counted (λ k stage. entry-at k stage t) IF
+        and counted (λ k stage. entry-at k stage t) ID
+        and counted (λ k stage. entry-at k stage t) EX
+        and counted (λ k stage. entry-at k stage t) MEM
+        and counted (λ k stage. entry-at k stage t) ST
+        and counted (λ k stage. entry-at k stage t) WB
 
   after-as : (t : ℕ) → after there t ≡ after trace t
   unfolding after
@@ -180,13 +222,18 @@ module _ (trace : Trace) where
   unfolding finish allLeft
   finish-as = λ t. leastFrom (λ n. every (λ i. same (after-as n t i .stage) post) (length-as trace t)) (bound-as trace t) 0
 
+settled-as : (to : Flag) (trace : Trace) → finish (settle to (asBranches trace)) ≡ finish (settle to trace)
+settled-as to trace = ap finish (settle-as to trace) ∙ finish-as (settle to trace)
+
 pub jumps-as-branches : JumpsAsBranches
-unfolding best worst
+unfolding best worst busTime
 jumps-as-branches trace =
     record {
       cycles = λ places i. ap (λ (at : Places). at i) (cycle-at trace places);
       places = λ t i. ap (λ (at : Places). at i) (after-as trace t);
+      states = orderly-as trace;
       time = finish-as trace;
-      best = ap finish (settle-as _ trace) ∙ finish-as (settle _ trace);
-      worst = ap finish (settle-as _ trace) ∙ finish-as (settle _ trace);
+      best = settled-as hit trace;
+      worst = settled-as miss trace;
+      onBus = λ longest t. settled-as miss trace t + accesses-as trace t * longest;
     }

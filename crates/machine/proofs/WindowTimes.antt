@@ -13,7 +13,7 @@ use Rattle.machine.proofs.Schedule.{Behaviour, enters, done}
 use Rattle.machine.proofs.Derivation.{countAt, last-count, behaviour}
 use Rattle.machine.proofs.Finish.{lastLeaves, finish-is}
 use Rattle.machine.proofs.Dominance.{previous, lastDone}
-use Rattle.machine.proofs.FetchTime.{branches, loads, stores, at-IF}
+use Rattle.machine.proofs.FetchTime.{holders, loads, stores, at-IF}
 use Rattle.machine.proofs.LastLeaves.{last-leaves}
 use Rattle.machine.proofs.StageTimes.{targetBefore, at-ID, at-EX, at-MEM, at-last, at-post, load-enters-WB}
 use Rattle.machine.proofs.Window.{Window, Times, noWindow, enterIF, enterID, enterEX, enterMEM, enterLast, lastCount, enterPost, timesFrom, slide, windowBefore, timesAt, allLeftBy}
@@ -35,7 +35,7 @@ module _ (trace : Trace) where
   unfoldable pub seen : ℕ → Window
   seen k =
       record {
-        nextFetch = max (max 1 (previous b k 2)) (branches trace k);
+        nextFetch = max (max 1 (previous b k 2)) (holders trace k);
         EX = previous b k 3;
         MEM = previous b k 4;
         last = previous b k 5;
@@ -73,12 +73,12 @@ module _ (trace : Trace) where
   unfolding timesFrom scheduledTimes
   times-seen k = rw (seen-IF k, seen-ID k, seen-EX k, seen-MEM k, seen-last k, seen-post k)
 
-  -- the instruction directly before was fetched after all branches before it, so that of the branches it alone can hold the next fetch back
-  next-fetch : (k : ℕ) → cond (holdsFetches (instruction trace k .kind)) (enters b k 3 + entry (instruction trace k) EX + 1) (enters b k 2) ≡ max (max 1 (enters b k 2)) (branches trace (suc k))
-  unfolding branches lastDone behaviour done
+  -- the instruction directly before was fetched after all that hold fetches back before it were done, so that of these it alone can hold the next fetch back
+  next-fetch : (k : ℕ) → cond (holdsFetches (instruction trace k .kind)) (enters b k 3 + entry (instruction trace k) EX + 1) (enters b k 2) ≡ max (max 1 (enters b k 2)) (holders trace (suc k))
+  unfolding holders lastDone behaviour done
   next-fetch k = by (value (holdsFetches (instruction trace k .kind)))
     where
-      by : Value (holdsFetches (instruction trace k .kind)) → cond (holdsFetches (instruction trace k .kind)) (enters b k 3 + entry (instruction trace k) EX + 1) (enters b k 2) ≡ max (max 1 (enters b k 2)) (branches trace (suc k))
+      by : Value (holdsFetches (instruction trace k .kind)) → cond (holdsFetches (instruction trace k .kind)) (enters b k 3 + entry (instruction trace k) EX + 1) (enters b k 2) ≡ max (max 1 (enters b k 2)) (holders trace (suc k))
       by (passed e) = rw e (omega (arith, at-EX trace k))
       by (failed e) = rw e (omega (arith, at-IF trace k, at-ID trace k))
 
@@ -92,11 +92,11 @@ module _ (trace : Trace) where
       by (failed e) = rw e
 
   slide-seen : (k : ℕ) → slide (seen k) (instruction trace k) (scheduledTimes b k) ≡ seen (suc k)
-  unfolding slide seen scheduledTimes previous branches loads stores lastDone targetBefore done behaviour
+  unfolding slide seen scheduledTimes previous holders loads stores lastDone targetBefore done behaviour
   slide-seen k = rw (next-fetch k, last-load k, at-post trace k)
 
   pub window-seen : (k : ℕ) → windowBefore trace k ≡ seen k
-  unfolding windowBefore noWindow seen previous branches loads stores lastDone targetBefore
+  unfolding windowBefore noWindow seen previous holders loads stores lastDone targetBefore
   window-seen zero = refl
   window-seen (suc k) = rw (window-seen k, times-seen k) (slide-seen k)
 

@@ -166,14 +166,17 @@ abbrev pub ZeroIsBefore : Type 0
 ZeroIsBefore = (trace : Trace) → AsBefore (withHits 0 trace)
 
 -- document 02, F-6: "It holds back later fetches as a branch does, until it stands at (EX, 0), and goes on through WB." Of every trace: with branches in
--- place of its jumps, and no target in place of theirs, every instruction stands where it stood, from wherever the instructions stand and after every
--- number of cycles, and the times are the same. So nobody waits for what a jump writes.
+-- place of its jumps, and no target in place of theirs, every instruction stands where it does with the jumps, a cycle on from wherever the
+-- instructions stand and after every number of cycles; the same states are orderly; and the times are the same, that on a shared bus among them. So
+-- nobody waits for what a jump writes.
 pub record TimedAsBranches (trace : Trace) : Type 0 where
   pub cycles : (places : Places) (i : ℕ) → cycle (asBranches trace) places i ≡ cycle trace places i
   pub places : (t i : ℕ) → after (asBranches trace) t i ≡ after trace t i
+  pub states : (s : State) → orderly (asBranches trace) s ≡ orderly trace s
   pub time : finish (asBranches trace) ≡ finish trace
   pub best : best (asBranches trace) ≡ best trace
   pub worst : worst (asBranches trace) ≡ worst trace
+  pub onBus : (longest : ℕ) → busTime (asBranches trace) longest ≡ busTime trace longest
 
 abbrev pub JumpsAsBranches : Type 0
 JumpsAsBranches = (trace : Trace) → TimedAsBranches trace

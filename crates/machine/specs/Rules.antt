@@ -11,7 +11,7 @@ pub data Stage : Type 0 where
   pre IF ID EX MEM ST WB post : Stage
 
 -- The next stage; document 02, F-5: "let each stage and kind have its own case, in the figure's order". The lines above the cases are the
--- figure's; no kind here is its nop, and a jump, which the figure does not have, goes where any kind but a store goes.
+-- figure's; no kind here is its nop. It has no jump; F-6: "and goes on through WB".
 abbrev pub next : Kind → Stage → Stage
 -- post : stage(i) ∈ {ST, WB} ∨ (stage(i) = ID ∧ opc(i) = nop)
 next plain ST = post
@@ -104,8 +104,7 @@ further a b = ltb (rank (b .stage)) (rank (a .stage)) or (same (a .stage) (b .st
 unfoldable pub shortOf : Place → Stage → ℕ → Bool
 shortOf a s c = further (record { stage = s; count = c }) a
 
--- Tests of a kind, and of a flag. Of the kinds, a branch holds back the fetches of later instructions; and a jump, document 02, F-6: "It holds back
--- later fetches as a branch does, until it stands at (EX, 0), and goes on through WB."
+-- tests of a kind, and of a flag
 abbrev pub isLoad : Kind → Bool
 isLoad plain = false
 isLoad load = true
@@ -124,6 +123,7 @@ isStore jump = false
 abbrev pub hasAccess : Kind → Bool
 hasAccess kind = isLoad kind or isStore kind
 
+-- "no older branch is short of (EX, 0)"; of a jump, document 02, F-6: "It holds back later fetches as a branch does"
 abbrev pub holdsFetches : Kind → Bool
 holdsFetches plain = false
 holdsFetches load = false

@@ -94,7 +94,7 @@ fn only(test: bool, n: u32) -> u32
 
 // Two of eight are plain, two loads, two stores, one is a branch and one a jump: behind these two a fetch
 // waits, and fewer instructions get in each other's way.
-fn kind_of(d: Dice) -> u32
+fn drawn_kind(d: Dice) -> u32
     ensures { λ r. ⌜ r ≤ 4 ⌝ }
 {
     let eighth = part(d, 0, 8) % 8;
@@ -107,7 +107,7 @@ fn kind_of(d: Dice) -> u32
 fn drawn(d: Dice, e: Dice, style: Style) -> Fields
     ensures { λ r. ⌜ Fits r ⌝ }
 {
-    let kind = kind_of(d);
+    let kind = drawn_kind(d);
     let memory = (kind == LOAD) | (kind == STORE);
     let no_target = (kind == STORE) | (kind == BRANCH);
     Fields {

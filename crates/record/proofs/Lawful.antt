@@ -1,12 +1,14 @@
--- The rules refuse no kind, a jump's are a plain instruction's, and the others' are document 01's: by computation, kind by kind.
+-- The rules refuse no kind, a jump's are a plain instruction's, and the others' are document 01's; a kind's number reads as that kind. By computation,
+-- kind by kind.
 use Prim.Native.Nat.{ℕ, zero, suc}
 use mathlib.Core.Bool.{_||_, or-false}
 use mathlib.Core.Path.{_≡_, refl}
 use native.Mathlib.Omega.{arith}
 use borrow.Author.Tests.{lt-ltb, ne-eqb}
 use lib.Dec.{ltb, eqb}
-use Rattle.record.specs.Rules.{breaksRules}
-use Rattle.record.specs.Claims.{EachKindLawful, JumpAsPlain, breaksBefore, RulesKept}
+use Rattle.machine.specs.Instruction.{plain, load, store, branch, jump}
+use Rattle.record.specs.Rules.{breaksRules, kindOf}
+use Rattle.record.specs.Claims.{EachKindLawful, JumpAsPlain, breaksBefore, RulesKept, KindIsRead}
 
 pub each-kind-lawful : EachKindLawful
 unfolding breaksRules
@@ -28,3 +30,11 @@ above (suc (suc (suc (suc (suc n))))) other = rw (lt-ltb 4 (suc (suc (suc (suc (
 pub rules-kept : RulesKept
 unfolding breaksRules breaksBefore
 rules-kept f flags other = rw (above (f .kind) other, ne-eqb (f .kind) 4 other, or-false (eqb (f .kind) 0 || eqb (f .kind) 3))
+
+pub kind-is-read : KindIsRead
+unfolding kindOf
+kind-is-read plain = refl
+kind-is-read load = refl
+kind-is-read store = refl
+kind-is-read branch = refl
+kind-is-read jump = refl

@@ -3,8 +3,9 @@ use Prim.Native.Nat.{ℕ}
 use mathlib.Core.Bool.{Bool, false, not, _||_, _&&_}
 use mathlib.Core.Path.{_≡_}
 use lib.Dec.{ltb, eqb}
+use Rattle.machine.specs.Instruction.{Kind}
 use Rattle.record.specs.Layout.{fieldsFrom, recordBytes, Fits}
-use Rattle.record.specs.Rules.{badFlags, badRegister, strayTarget, badFetchLatency, breaksRules}
+use Rattle.record.specs.Rules.{breaksRules, kindOf, kindNumber}
 use Rattle.record.specs.declared.layout.Fields.{Fields}
 
 -- register 0 alone, hits, a fetch latency of 1
@@ -50,22 +51,27 @@ ofKind kind f =
 abbrev pub JumpAsPlain : Type 0
 JumpAsPlain = (f : Fields) (flags : ℕ) → breaksRules (ofKind 4 f) flags ≡ breaksRules (ofKind 0 f) flags
 
--- Document 01's rules alone: "Byte 0, kind: 0 plain, 1 load, 2 store, 3 conditional branch. [..] Kinds 0 and 3 have data bits 0. [..] data latency, 1 to
--- 65,535 for kinds 1 and 2, and 0 for kinds 0 and 3."
+-- Document 01's rules alone: "Byte 0, kind: 0 plain, 1 load, 2 store, 3 conditional branch. [..] 3 refused. Bits 4 to 7 are zero. Kinds 0 and 3 have data
+-- bits 0. [..] source registers; byte 4, target register; each 0 to 31. [..] Kinds 2 and 3 have target 0. [..] fetch latency, 1 to 65,535 [..] data
+-- latency, 1 to 65,535 for kinds 1 and 2, and 0 for kinds 0 and 3."
 unfoldable pub breaksBefore : Fields → ℕ → Bool
 breaksBefore f flags =
     ltb 3 (f .kind)
-    || badFlags f flags
+    || (eqb (f .fetch) 3 || eqb (f .access) 3 || ltb 15 flags)
     || (eqb (f .kind) 0 || eqb (f .kind) 3) && not (eqb (f .access) 0)
-    || badRegister f
-    || strayTarget f
-    || badFetchLatency f
+    || (ltb 31 (f .source1) || ltb 31 (f .source2) || ltb 31 (f .target))
+    || (eqb (f .kind) 2 || eqb (f .kind) 3) && not (eqb (f .target) 0)
+    || eqb (f .«fetch_latency») 0
     || ((eqb (f .kind) 1 || eqb (f .kind) 2) && eqb (f .«data_latency») 0
     || (eqb (f .kind) 0 || eqb (f .kind) 3) && not (eqb (f .«data_latency») 0))
 
 -- They decide still, but for kind 4: nothing else that they declined is accepted, and nothing that they accepted is declined.
 abbrev pub RulesKept : Type 0
 RulesKept = (f : Fields) (flags : ℕ) → ¬ (f .kind ≡ 4) → breaksRules f flags ≡ breaksBefore f flags
+
+-- The number of each kind is read as that kind.
+abbrev pub KindIsRead : Type 0
+KindIsRead = (kind : Kind) → kindOf (kindNumber kind) ≡ kind
 
 -- Fields that are written are read back.
 abbrev pub WrittenIsRead : Type 0

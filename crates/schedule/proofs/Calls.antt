@@ -14,10 +14,10 @@ use Rattle.schedule.specs.declared.sliding.Times.{Times}
 
 -- the window slides
 pub slid
-    : (f : Fields) (w : Window) (e : Times) {nextFetch loadDone storeDone loadTarget : ℕ} {load branch store : Bool} →
+    : (f : Fields) (w : Window) (e : Times) {nextFetch loadDone storeDone loadTarget : ℕ} {load holds store : Bool} →
     load ≡ isLoad (instructionOf f .kind) →
-    branch ≡ holdsFetches (instructionOf f .kind) →
-    nextFetch ≡ cond branch (e .EX + (f .execution + 1)) (e .ID) →
+    holds ≡ holdsFetches (instructionOf f .kind) →
+    nextFetch ≡ cond holds (e .EX + (f .execution + 1)) (e .ID) →
     loadDone ≡ cond load (e .last) (w .«load_done») →
     store ≡ isStore (instructionOf f .kind) →
     storeDone ≡ cond store (e .post) (w .«store_done») →
@@ -36,9 +36,9 @@ pub slid
     })
     (Theory.slide (windowOf w) (instructionOf f) (timesOf e))
 unfolding Theory.slide entry instructionOf
-slid f w e load branch nextFetch loadDone store storeDone loadTarget =
+slid f w e load holds nextFetch loadDone store storeDone loadTarget =
     rw
-    (nextFetch, loadDone, storeDone, loadTarget, sum-joins (e .EX) (f .execution) 1, load, branch, store)
+    (nextFetch, loadDone, storeDone, loadTarget, sum-joins (e .EX) (f .execution) 1, load, holds, store)
 
 -- times with six equal fields are equal
 pub six-times
