@@ -54,7 +54,7 @@ HitsOnBus =
     ≡ given 1 33 ∷ given 1 36 ∷ given 1 48 ∷ record { refusal = 17; accesses = 0; time = 0 } ∷ []
 
 -- document 02, F-6: a jump's fetch is counted; with a wait of 10. Of its cases four have no missed or unknown access, then the fetch behind a jump
--- misses, is unknown, and the jump's own misses; the jump behind a jump and the two that wait for a load hit have none, and the other three the load's
+-- misses, is unknown, and the jump's own misses; the jump behind a jump and the two that wait for a load hit have none, and the other four the load's
 -- or the store's.
 abbrev pub JumpsOnBus : Type 0
 JumpsOnBus =
@@ -71,6 +71,7 @@ JumpsOnBus =
     ∷ given 0 11
     ∷ given 1 28
     ∷ given 1 25
+    ∷ given 1 28
     ∷ given 1 28
     ∷ []
 

@@ -217,7 +217,7 @@ jumpAndPlain latency = registers 0 0 1 (executed latency (simple jump hit 0)) �
 -- A jump and a plain one take 9, as a branch and a plain one do, and 11 with an execution latency of 2, whether or not the plain one reads the target.
 -- The fetch behind a jump misses, and is unknown; the jump's own fetch misses; a jump behind a jump. A jump waits in ID for what it reads, as any kind
 -- but a store does; for a load hit the longer, the more cycles that takes. Past a store in ST it leaves through WB. Where the jump stands in EX until
--- row 14, behind a store that waits for ST, the plain one that reads its target enters EX as the jump leaves it.
+-- row 14, behind a load that misses or a store that waits for ST, the plain one that reads its target enters EX as the jump leaves it.
 unfoldable pub jumps : List Case
 unfolding simple plainOne fetched executed registers hittingCase settledCase jumpAndPlain
 jumps =
@@ -233,6 +233,7 @@ jumps =
     ∷ hittingCase (registers 0 0 1 (simple load hit 20) ∷ registers 1 0 2 (simple jump hit 0) ∷ []) 3 11
     ∷ settledCase (registers 0 0 1 (simple load miss 10) ∷ registers 0 1 2 (simple jump hit 0) ∷ []) 18
     ∷ settledCase (simple store miss 10 ∷ simple jump hit 0 ∷ []) 15
+    ∷ settledCase (simple load miss 10 ∷ jumpAndPlain 0) 18
     ∷ settledCase (simple store miss 10 ∷ simple store hit 1 ∷ jumpAndPlain 0) 18
     ∷ []
 
