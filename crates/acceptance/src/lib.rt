@@ -1,5 +1,7 @@
 // Which bodies are accepted, by the refusals that calls share: 10 a wrong length, 8 a record that
 // breaks its rules, 17 a data hit that takes too long, 11 an unknown flag.
+#![tactic(auto)]
+
 ghost use Rattle.std.specs.Prelude.{◌≡◌};
 ghost use Rattle.record.specs.Refusal.{◌then◌};
 ghost use Rattle.record.specs.Body.{

@@ -9,7 +9,7 @@ use decode::MISS;
 use passing::finish_settled;
 
 #[repr(C)]
-#[derive(Drop)]
+#[derive(Clone, Copy, Drop)]
 pub struct TimeOnBus {
     pub refusal: u32,
     pub accesses: u32,

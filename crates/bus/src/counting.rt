@@ -14,7 +14,7 @@ use record::{Fields, count, fields_at};
 const MAX_LATENCY: u32 = 65535;
 
 // How many accesses are counted, and whether the wait makes one of them longer than a record holds.
-#[derive(Drop)]
+#[derive(Clone, Copy, Drop)]
 pub struct Counted {
     pub accesses: u32,
     pub too_long: bool,

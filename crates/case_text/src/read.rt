@@ -9,7 +9,7 @@ use parts::cut;
 use std::num::wrapping_add_usize;
 
 // A number, 0 where there is none, and the index after it.
-#[derive(Drop)]
+#[derive(Clone, Copy, Drop)]
 pub struct Told {
     pub valid: bool,
     pub value: u32,

@@ -8,7 +8,7 @@ use parts::cut;
 use std::num::wrapping_add_u64;
 
 // How many cases of the group were tried, and how many came out.
-#[derive(Drop)]
+#[derive(Clone, Copy, Drop)]
 struct Tally {
     tried: u64,
     right: u64,

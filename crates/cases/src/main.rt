@@ -10,6 +10,8 @@
 //                      What a call is given and answers is told where it is made; an answer of fewer than
 //                      three numbers has zeros behind them
 //   group LABEL        the end of a group
+#![tactic(auto)]
+
 mod engine;
 mod jobs;
 mod lines;

@@ -49,7 +49,7 @@ fn run(s: &[u8], limit: u32, body: &[u8], hit_cycles: u32) -> bool {
     )
 }
 
-#[derive(Drop)]
+#[derive(Clone, Copy, Drop)]
 struct Outcome {
     refusal: u32,
     time: u32,

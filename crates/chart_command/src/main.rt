@@ -1,5 +1,7 @@
 // The chart of the first trace of the job file on standard input. One byte more than a file may have
 // is read, so that a longer input is refused as such.
+#![tactic(auto)]
+
 use chart_text::{CHART_BYTES, draw};
 
 fn main() {

@@ -1,5 +1,7 @@
 // The lines of a chart, each as text in a lent output. Inner functions for the crates that draw:
 // each requires room for its line.
+#![tactic(auto)]
+
 pub mod lines;
 
 pub use lines::{

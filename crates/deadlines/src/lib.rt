@@ -1,10 +1,12 @@
 // A deadline as a word: the number that its digits give.
+#![tactic(auto)]
+
 ghost use Rattle.std.specs.Prelude.{◌≡◌, ◌<◌};
 ghost use Rattle.deadlines.specs.Deadline.{is_digit, no_deadline, deadline_of};
 
 // Whether a word gives a deadline, and its cycles, 0 where it gives none.
 #[repr(C)]
-#[derive(Drop)]
+#[derive(Clone, Copy, Drop)]
 pub struct Deadline {
     pub valid: bool,
     pub cycles: u32,

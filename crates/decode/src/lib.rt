@@ -1,6 +1,8 @@
 // What an instruction does, from its record's fields: its kind and flags by name, what it reads, its
 // counts on entry, whom it waits for in which stage and until when. No public call of document 01 is
 // here; a cycle and the passes over a body ask these functions.
+#![tactic(auto)]
+
 pub mod choice;
 pub mod counts;
 pub mod kinds;

@@ -4,7 +4,7 @@ use Prim.Native.Nat.{ℕ, ◌+◌, ◌*◌, ◌≤◌}
 use mathlib.Core.Bool.{Bool, true, false, not, ◌&&◌}
 use mathlib.Core.Path.{◌≡◌, refl, ap, subst, ◌∙◌}
 use native.Mathlib.Omega.{arith}
-use borrow.Author.Tests.{eqb-true, eq-eqb, ne_eqb, le-ltb, not_false}
+use borrow.Author.Tests.{eqb-true, eq-eqb, ne_eqb, le-ltb, not-false}
 use lib.Dec.{eqb}
 use Rattle.machine.specs.Instruction.{Flag, hit, miss, unknown, Instruction}
 use Rattle.machine.specs.Time.{Settled, hit_stays, SettledInstruction, Known}
@@ -34,7 +34,7 @@ unfolding flag_of
 still_0 n flag h e = hit_stays_0 (subst (λ (n : ℕ). Settled (flag_of n) flag) e h)
 
 wanted_0 : (test : Bool) (n m : ℕ) → (n ≡ 0 → m ≡ 0) → (test && not (eqb n 0)) ≡ false → (test && not (eqb m 0)) ≡ false
-wanted_0 true n m h e = ap not (eq-eqb m 0 (h (eqb-true n 0 (not_false (eqb n 0) e))))
+wanted_0 true n m h e = ap not (eq-eqb m 0 (h (eqb-true n 0 (not-false (eqb n 0) e))))
 wanted_0 false n m h e = refl
 
 -- The record of a settled instruction.

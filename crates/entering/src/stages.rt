@@ -25,7 +25,7 @@ use record::Fields;
 
 // What a pass remembers of the instructions so far.
 #[repr(C)]
-#[derive(Drop)]
+#[derive(Clone, Copy, Drop)]
 pub struct Window {
     // When IF can be entered next: when the instruction directly before entered ID, or, where that holds
     // fetches back, one cycle after it stood with count 0 in EX; before the first, 1.

@@ -1,5 +1,7 @@
 // Draws each job file that the arguments name and compares the text with its chart: the arguments
 // are pairs, a job file and its chart.
+#![tactic(auto)]
+
 ghost use Rattle.io.specs.Counts.{IsPrefixLen};
 
 use chart_text::{CHART_BYTES, draw};

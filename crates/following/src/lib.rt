@@ -1,6 +1,8 @@
 // The stage that comes after another: `stage'(i)` of Figure 5, a case for each stage and kind, in the
 // figure's order. The lines above the functions are the figure's, which has a nop and no jump. The
 // comment beside a case names the case of the definition that it is.
+#![tactic(auto)]
+
 ghost use Rattle.std.specs.Prelude.{◌≡◌};
 ghost use Rattle.machine.specs.Rules.{next, pre, IF, ID, EX, MEM, ST, WB, post};
 ghost use Rattle.machine.specs.Named.{kind_named, stage_named};

@@ -30,7 +30,7 @@ pub const MAX_TRACES: u32 = 16;
 pub const RECORD_BYTES: u32 = RECORD_SIZE as u32;
 
 // Where a body starts and ends in its file.
-#[derive(Drop)]
+#[derive(Clone, Copy, Drop)]
 pub struct Bounds {
     pub start: usize,
     pub end: usize,
@@ -38,14 +38,14 @@ pub struct Bounds {
 
 // A refusal's number and zeros, or 0 and the bounds.
 #[repr(C)]
-#[derive(Drop)]
+#[derive(Clone, Copy, Drop)]
 pub struct Located {
     pub refusal: u32,
     pub start: usize,
     pub end: usize,
 }
 
-#[derive(Drop)]
+#[derive(Clone, Copy, Drop)]
 struct Entries {
     refusal: u32,
     end: u32,

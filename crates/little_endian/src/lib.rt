@@ -1,4 +1,6 @@
 // Numbers of one, two and four bytes, the low byte first: read from bytes, and written into an output.
+#![tactic(auto)]
+
 ghost use Rattle.std.specs.Prelude.{◌≡◌, ◌+◌, ◌<◌, ◌≤◌, ◌^◌, ◌++◌, length, take, drop};
 ghost use Rattle.little_endian.specs.Numbers.{byte, half, word, half_bytes, word_bytes};
 

@@ -3,7 +3,7 @@ use Prim.Native.Nat.{ℕ, zero, suc, ◌<◌}
 use native.Mathlib.Omega.{arith}
 use mathlib.Core.Bool.{Bool, true, false, not, true≢false, false≢true}
 use mathlib.Core.Path.{◌≡◌, refl, sym, ap, ◌∙◌}
-use borrow.Author.Tests.{not_true}
+use borrow.Author.Tests.{not-true}
 use Rattle.machine.proofs.Numbers.{Tri, less, equal, more, tri}
 use Rattle.machine.specs.Test.{◌and◌, ◌or◌, every, none}
 
@@ -138,7 +138,7 @@ module _ (test : ℕ → Bool) where
 
 pub none_at : (test : ℕ → Bool) (n : ℕ) → none test n ≡ true → (k : ℕ) → k < n → test k ≡ false
 unfolding none
-none_at test n e k h = not_true _ (every_at (λ k. not (test k)) n e k h)
+none_at test n e k h = not-true _ (every_at (λ k. not (test k)) n e k h)
 
 pub none_below : (test : ℕ → Bool) (n : ℕ) → ((k : ℕ) → k < n → test k ≡ false) → none test n ≡ true
 unfolding none

@@ -4,7 +4,7 @@ use Prim.Native.Nat.{ℕ, suc, ◌+◌, ◌-◌}
 use native.Mathlib.Omega.{arith}
 use mathlib.Core.Bool.{Bool, true, false, not, cond}
 use mathlib.Core.Path.{◌≡◌, refl, sym, ap, subst, ◌∙◌}
-use borrow.Author.Tests.{not_true}
+use borrow.Author.Tests.{not-true}
 use Rattle.machine.specs.Test.{◌and◌}
 use Rattle.machine.specs.Instruction.{Kind, Trace, instruction}
 use Rattle.machine.specs.Rules.{Stage, pre, IF, ID, EX, MEM, ST, WB, post, next, same, entry, budget}
@@ -62,7 +62,7 @@ module _ (trace : Trace) (s : State) where
     where
       by : Value (arrives trace s k) → Value ((slot s k).filled and not (leaves trace s k)) → After trace s k (new_slot trace s k)
       by (passed a) v = rw a (came a)
-      by (failed a) (passed e) = rw (a, e) (stayed a (and_l _ _ e) (not_true _ (and_r _ _ e)))
+      by (failed a) (passed e) = rw (a, e) (stayed a (and_l _ _ e) (not-true _ (and_r _ _ e)))
       by (failed a) (failed e) = rw (a, e) (vacant a e)
 
   pub leaves_post : leaves trace s post ≡ false

@@ -4,7 +4,7 @@ use mathlib.Core.Bool.{Bool, true, false, not, cond}
 use mathlib.Core.Path.{◌≡◌, refl, ap, ap₂}
 use lib.Dec.{leb, eqb}
 use lib.ListN.{length}
-use borrow.Author.Tests.{leb-true, ltb-true, eqb-true, le-leb, lt-ltb, eq-eqb, not_true}
+use borrow.Author.Tests.{leb-true, ltb-true, eqb-true, le-leb, lt-ltb, eq-eqb, not-true}
 use Rattle.machine.specs.Test.{◌and◌, ◌or◌}
 use Rattle.machine.specs.Instruction.{Trace, instruction}
 use Rattle.machine.specs.Rules.{Stage, pre, IF, ID, EX, MEM, ST, WB, post, entry}
@@ -122,7 +122,7 @@ module _ (trace : Trace) (s : State) where
         in_EX = turn_holds EX (and_r _ _ e3);
         in_MEM = turn_holds MEM (and_r _ _ e4);
         in_WB = turn_holds WB (and_r _ _ e5);
-        no_store = λ f. not_true _ (implies _ _ (and_r _ _ e6) f);
+        no_store = λ f. not-true _ (implies _ _ (and_r _ _ e6) f);
         in_ST = λ f. ltb-true (s.ST.index + younger s ST) s.fetched (implies _ _ (and_r _ _ e7) f);
         a_store = implies _ _ (and_r _ _ e8);
         counted =

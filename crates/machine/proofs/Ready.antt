@@ -3,7 +3,7 @@ use Prim.Native.Nat.{ℕ, ◌≤◌, ◌<◌}
 use native.Mathlib.Omega.{arith}
 use mathlib.Core.Bool.{Bool, true, false, not}
 use mathlib.Core.Path.{◌≡◌, refl, ap, subst, ◌∙◌}
-use borrow.Author.Tests.{ltb-true, lt-ltb, not_true}
+use borrow.Author.Tests.{ltb-true, lt-ltb, not-true}
 use Rattle.machine.specs.Test.{◌and◌, ◌or◌, none}
 use Rattle.machine.specs.Instruction.{Kind, Trace, instruction}
 use Rattle.machine.specs.Rules.{Stage, pre, IF, ID, EX, MEM, ST, WB, post, same, Place, Places, further, short_of, no_older}
@@ -111,7 +111,7 @@ module _ (trace : Trace) (s : State) (o : Orderly trace s) (k : Stage) (i : ℕ)
           ap not (or_failed _ _ (or_failed _ _ (or_failed _ _ (or_failed _ _ (or_failed _ _ (at IF) (at ID)) (at EX)) (at MEM)) (at ST)) (at WB))
 
       back : not (held_back trace s k i) ≡ true → none (λ j. test j (place_of s j)) i ≡ true
-      back e = none_below _ i (λ j l. spot_waits h (not_true _ e) j l (spot s j))
+      back e = none_below _ i (λ j l. spot_waits h (not-true _ e) j l (spot s j))
 
   -- an instruction that is fetched, or the next to be fetched, is ready, as far as a cycle has to ask, exactly when no slot holds it back
   pub ready_by_slots : i ≤ s.fetched → ready_asked trace (place_of s) i k ≡ not (held_back trace s k i)

@@ -5,7 +5,7 @@ use native.Mathlib.Omega.{arith}
 use mathlib.Core.Bool.{Bool, true, false, not}
 use mathlib.Core.Path.{◌≡◌, refl, sym, ap, ◌∙◌}
 use lib.ListN.{length}
-use borrow.Author.Tests.{ltb-true, eq-eqb, not_true}
+use borrow.Author.Tests.{ltb-true, eq-eqb, not-true}
 use Rattle.machine.specs.Test.{◌and◌}
 use Rattle.machine.specs.Instruction.{Trace, instruction}
 use Rattle.machine.specs.Rules.{Stage, pre, IF, ID, EX, MEM, ST, WB, post, entry, is_store}
@@ -118,7 +118,7 @@ module _ (trace : Trace) (s : State) (o : Orderly trace s) where
 
   no_store_lem : {new : Slot} → After trace s WB new → new.filled ≡ true → is_store (instruction trace new.index).kind ≡ false
   unfolding arrives kinds_in standing stage_before
-  no_store_lem (came a) f = not_true _ (sym (into_WB (kinds_in trace s MEM)) ∙ and_r _ _ a)
+  no_store_lem (came a) f = not-true _ (sym (into_WB (kinds_in trace s MEM)) ∙ and_r _ _ a)
   no_store_lem (stayed a g l) f = o.no_store g
   no_store_lem (vacant a e) f = clash f refl
 

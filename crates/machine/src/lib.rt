@@ -1,5 +1,7 @@
 // The pipeline state: how many instructions have been fetched, and what each of the six stages
 // between pre and post holds. The starting state and the limits belong to it.
+#![tactic(auto)]
+
 ghost use Rattle.std.specs.Prelude.{◌≡◌};
 ghost use Rattle.machine.specs.State.{start};
 
@@ -8,7 +10,7 @@ pub mod stage;
 pub use stage::Stage;
 
 // The kinds of instruction; a branch is a conditional one, and a jump may write a register.
-#[derive(Drop)]
+#[derive(Clone, Copy, Drop)]
 pub enum Kind {
     Plain,
     Load,
@@ -19,7 +21,7 @@ pub enum Kind {
 
 // A stage's slot: empty (index and count 0), or an instruction's index with its remaining count.
 #[repr(C)]
-#[derive(Drop)]
+#[derive(Clone, Copy, Drop)]
 pub struct Slot {
     pub filled: bool,
     pub index: u32,
@@ -28,7 +30,7 @@ pub struct Slot {
 
 // Instructions below `fetched` have left pre; those of them that are in no slot are in post.
 #[repr(C)]
-#[derive(Drop)]
+#[derive(Clone, Copy, Drop)]
 pub struct State {
     pub fetched: u32,
     pub IF: Slot,

@@ -5,7 +5,7 @@ ghost use Rattle.machine.specs.Named.{stage_named};
 
 // In the order in which an instruction passes them: ST is a store's last stage, WB that of any other
 // kind.
-#[derive(Drop)]
+#[derive(Clone, Copy, Drop)]
 pub enum Stage {
     Pre,
     IF,

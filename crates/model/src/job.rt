@@ -11,7 +11,7 @@ const MOST_TRACES: u32 = 16;
 const MOST_RECORDS: u32 = 4096;
 
 // A refusal, or 0 and the body as a part of the file; a refusal has an empty part.
-#[derive(Drop)]
+#[derive(Clone, Copy, Drop)]
 pub struct Opened {
     pub refusal: u32,
     pub start: usize,

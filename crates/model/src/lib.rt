@@ -1,5 +1,7 @@
 // The second model of the in-order core: the cycle rules and the checks of the documents, read
 // literally, for programs that compare the engine with it. It shares no code with the engine.
+#![tactic(auto)]
+
 mod body;
 mod job;
 mod next_stage;

@@ -7,7 +7,7 @@ use super::trace::{BRANCH, HIT, Instruction, JUMP, LOAD, MISS, STORE};
 // Whether some older one is in pre, some older branch is short of (EX, 0), some older jump short of
 // (EX, 0), some older load short of (MEM, 0), some older store short of (ST, 0); and the target
 // registers of those loads, which alone carry a dependence.
-#[derive(Drop)]
+#[derive(Clone, Copy, Drop)]
 pub struct Older {
     pub in_pre: bool,
     pub branch: bool,

@@ -22,14 +22,14 @@ pub const WB: u8 = 6;
 
 pub const POST: u8 = 7;
 
-#[derive(Drop)]
+#[derive(Clone, Copy, Drop)]
 pub struct Place {
     pub stage: u8,
     pub count: u32,
 }
 
 // A stage's occupant; an empty slot has index 0 and count 0.
-#[derive(Drop)]
+#[derive(Clone, Copy, Drop)]
 pub struct Slot {
     pub filled: bool,
     pub index: usize,

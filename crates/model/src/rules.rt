@@ -11,7 +11,7 @@ use super::trace::{BRANCH, Instruction, JUMP, LOAD, MISS, PLAIN, STORE, instruct
 
 // What stands in the stages: of each kind those in which one stands; and those with an instruction
 // whose count is above 0 or that is not ready.
-#[derive(Drop)]
+#[derive(Clone, Copy, Drop)]
 struct Standing {
     plains: u32,
     loads: u32,

@@ -4,7 +4,7 @@ use super::places::{all_left, start};
 use super::rules::cycle;
 use super::trace::{HIT, Instruction, instruction_at, size};
 
-#[derive(Drop)]
+#[derive(Clone, Copy, Drop)]
 pub struct Ran {
     pub cycles: u32,
     pub left: bool,

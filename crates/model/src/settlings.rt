@@ -134,7 +134,7 @@ fn last_choice(body: &[u8]) -> u32 {
     choice
 }
 
-#[derive(Drop)]
+#[derive(Clone, Copy, Drop)]
 pub struct Times {
     pub best: u32,
     pub worst: u32,

@@ -33,7 +33,7 @@ pub const UNKNOWN: u8 = 2;
 pub const REFUSED: u8 = 3;
 
 // The fields of one instruction.
-#[derive(Drop)]
+#[derive(Clone, Copy, Drop)]
 pub struct Instruction {
     pub kind: u8,
     pub fetch: u8,

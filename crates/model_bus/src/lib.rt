@@ -1,5 +1,7 @@
 // The second model's time on a shared bus (document 02, F-1), over the second model's own rules. It shares no
 // code with the engine.
+#![tactic(auto)]
+
 mod rows;
 mod time;
 mod versions;

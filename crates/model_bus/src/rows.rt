@@ -38,7 +38,7 @@ pub fn under_way<'a>(body: &'a [u8], stages: &'a [u8], counts: &'a [u32]) -> u32
 
 // The rows of a trace before all have left: how many there are, how many have an access under way, and the
 // most that are under way in one.
-#[derive(Drop)]
+#[derive(Clone, Copy, Drop)]
 pub struct Watched {
     pub rows: u32,
     pub busy: u32,

@@ -9,7 +9,7 @@ use std::num::wrapping_add_u32;
 const LONGEST: u32 = 65535;
 
 // A refusal has zeros for the other two.
-#[derive(Drop)]
+#[derive(Clone, Copy, Drop)]
 pub struct BusTime {
     pub refusal: u32,
     pub accesses: u32,

@@ -6,7 +6,7 @@ use model::{DATA_LATENCY, FETCH_LATENCY, FLAGS, Instruction, RECORD, put_byte};
 use std::num::wrapping_add_u32;
 
 // An access of a version, and the rest of the choice that made it.
-#[derive(Drop)]
+#[derive(Clone, Copy, Drop)]
 struct Access {
     flag: u8,
     latency: u32,

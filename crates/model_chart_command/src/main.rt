@@ -1,5 +1,6 @@
 // Prints the chart of the job file on standard input as the second model draws it; the examples'
 // charts are made with it, and the program `example_charts` holds the engine to them.
+#![tactic(auto)]
 
 fn main() {
     let mut file = [0u8; 65537];

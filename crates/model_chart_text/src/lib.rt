@@ -1,5 +1,7 @@
 // The chart as the second model draws it, on standard output; and words and numbers for programs over
 // the model.
+#![tactic(auto)]
+
 mod chart;
 mod output;
 

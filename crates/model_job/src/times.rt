@@ -13,7 +13,7 @@ const FEW_FLAGS: u32 = 6;
 const NO_TIME: u32 = 4294967295;
 
 // A refusal has 0 for the number of traces.
-#[derive(Drop)]
+#[derive(Clone, Copy, Drop)]
 pub struct WholeJob {
     pub refusal: u32,
     pub traces: u32,

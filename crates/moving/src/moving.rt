@@ -17,7 +17,7 @@ use machine::stage::{number, same};
 use machine::{Kind, Stage};
 
 // A bit for each stage that an instruction can move out of.
-#[derive(Drop)]
+#[derive(Clone, Copy, Drop)]
 pub struct Bits {
     pub pre: bool,
     pub IF: bool,

@@ -1,4 +1,6 @@
 // Open: a trace's body as a part of its file, in a struct that holds the part.
+#![tactic(auto)]
+
 ghost use Rattle.std.specs.Prelude.{◌≡◌};
 ghost use Rattle.record.specs.Part.{StartsAt};
 ghost use Rattle.job.specs.Layout.{start_at};
@@ -11,7 +13,7 @@ pub mod inner;
 
 // A refusal's number and an empty part, or 0 and the body.
 #[repr(C)]
-#[derive(Drop)]
+#[derive(Clone, Copy, Drop)]
 pub struct Opened<'a> {
     pub refusal: u32,
     pub body: &'a [u8],

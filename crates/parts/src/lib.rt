@@ -1,4 +1,6 @@
 // Parts of a job file: any, from where it starts to where it ends; and the body of a trace.
+#![tactic(auto)]
+
 ghost use Rattle.std.specs.Prelude.{◌≡◌, ◌-◌, ◌<◌, ◌≤◌, length, take, drop};
 ghost use Rattle.record.specs.Part.{StartsAt};
 ghost use Rattle.job.specs.Layout.{traces, start_at};

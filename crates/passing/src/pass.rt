@@ -14,7 +14,7 @@ use schedule::{Times, all_left_by, no_window, slide, times_from};
 use settling::settled_at;
 
 // When an instruction enters each stage, and the window after it.
-#[derive(Drop)]
+#[derive(Clone, Copy, Drop)]
 struct Timed {
     pub times: Times,
     pub window: Window,
@@ -22,7 +22,7 @@ struct Timed {
 
 // Instruction k at which a pass has stopped, with its times and the window after it; or, past the last
 // instruction, no times and the window after all.
-#[derive(Drop)]
+#[derive(Clone, Copy, Drop)]
 pub struct Reached {
     pub k: u32,
     pub times: Times,

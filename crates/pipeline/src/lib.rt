@@ -1,4 +1,6 @@
 // The public call Step.
+#![tactic(auto)]
+
 pub mod refusal;
 pub mod stepping;
 

@@ -11,7 +11,7 @@ use record::count;
 use standing::read_stages;
 
 #[repr(C)]
-#[derive(Drop)]
+#[derive(Clone, Copy, Drop)]
 pub struct Stepped {
     pub refusal: u32,
     pub state: State,

@@ -16,7 +16,7 @@ use schedule::Times;
 
 // A stage and a remaining count.
 #[repr(C)]
-#[derive(Drop)]
+#[derive(Clone, Copy, Drop)]
 pub struct Place {
     pub stage: u32,
     pub count: u32,

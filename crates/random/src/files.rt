@@ -6,7 +6,7 @@ use writer::write;
 
 // A file, whole or damaged; the refusals that Write gave with room for it and without, and whether
 // the model gives the same.
-#[derive(Drop)]
+#[derive(Clone, Copy, Drop)]
 pub struct File {
     pub bytes: [u8; 160],
     pub length: usize,
@@ -16,7 +16,7 @@ pub struct File {
 }
 
 // What Write is given: the first `length` of these counts.
-#[derive(Drop)]
+#[derive(Clone, Copy, Drop)]
 struct List {
     counts: [u16; 17],
     length: usize,

@@ -1,4 +1,6 @@
 // Random traces: the engine's calls against the second model, from a fixed seed.
+#![tactic(auto)]
+
 mod files;
 mod pairs;
 mod print;
@@ -19,7 +21,7 @@ use turns::{
 
 const TRACES: u64 = 40000;
 
-#[derive(Drop)]
+#[derive(Clone, Copy, Drop)]
 struct Turn {
     dice: Dice,
     tally: Tally,

@@ -5,7 +5,7 @@ use pipeline::{Stepped, step};
 use running::run;
 
 // How many rows were compared, and whether all agreed.
-#[derive(Drop)]
+#[derive(Clone, Copy, Drop)]
 pub struct Compared {
     pub compared: u32,
     pub agree: bool,

@@ -1,6 +1,6 @@
 // How many of each were compared, and the first trace at which the engine and the model differ. Of the
 // traces, how many 17 declined, and how many were compared with h above 0.
-#[derive(Drop)]
+#[derive(Clone, Copy, Drop)]
 pub struct Tally {
     pub traces: u64,
     pub declined: u64,

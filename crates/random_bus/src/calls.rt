@@ -8,7 +8,7 @@ const FEW: u32 = 4;
 
 // Answers compared; those that were 10, 8, 17 and 15, and those that one more cycle would have made 15; those with h
 // above 0 that were none of these; those on which engine and model differ.
-#[derive(Drop)]
+#[derive(Clone, Copy, Drop)]
 pub struct Calls {
     pub compared: u32,
     pub lengths: u32,

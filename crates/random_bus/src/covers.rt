@@ -18,7 +18,7 @@ const SOME: u32 = 2;
 const VERSIONS: u32 = 625;
 
 // How many traces attain the time given, how many do not, and by how much at most.
-#[derive(Drop)]
+#[derive(Clone, Copy, Drop)]
 pub struct Attained {
     pub exact: u32,
     pub short: u32,
@@ -28,7 +28,7 @@ pub struct Attained {
 // Traces, those that 17 declined, and of the others those with h above 0 and those of which every version was run;
 // their versions, the rows of these, and the rows with an access under way; what is attained, in all of which every
 // version was run and in those with one missed access and no unknown one; what does not hold.
-#[derive(Drop)]
+#[derive(Clone, Copy, Drop)]
 pub struct Covers {
     pub traces: u32,
     pub declined: u32,
@@ -68,7 +68,7 @@ pub fn no_covers() -> Covers {
 // Of all versions of a trace: how many there are, the greatest finishing time, their rows, how many of these have an
 // access under way, the most in a row of the engine's or of the model's, and whether the two agree on all finishing times
 // and on how many rows have an access under way.
-#[derive(Drop)]
+#[derive(Clone, Copy, Drop)]
 struct Outcome {
     versions: u32,
     greatest: u32,

@@ -1,5 +1,7 @@
 // Random traces on a shared bus, from a fixed seed: the engine's answer against the second model's, and the time
 // given against every trace that it has to cover.
+#![tactic(auto)]
+
 mod bodies;
 mod calls;
 mod counts;
@@ -17,7 +19,7 @@ use random_traces::{Dice, Draft, SEED, Style, first, hits_from, length_of, part,
 
 const TRACES: u32 = 8000;
 
-#[derive(Drop)]
+#[derive(Clone, Copy, Drop)]
 struct Turn {
     dice: Dice,
     calls: Calls,

@@ -9,7 +9,7 @@ use random_traces::one_more_if;
 use running::run;
 
 // How many rows have an access under way, and the most that are under way in one.
-#[derive(Drop)]
+#[derive(Clone, Copy, Drop)]
 pub struct Busy {
     pub rows: u32,
     pub most: u32,

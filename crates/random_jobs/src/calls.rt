@@ -22,7 +22,7 @@ fn second(file: &[u8], times: &mut [u32], hit_cycles: u32) -> model_job::WholeJo
 
 // The engine's answer, whether the model's differs, in a place of the list or beyond it too, and how many of all
 // places, and of those behind the first T, have their former values.
-#[derive(Drop)]
+#[derive(Clone, Copy, Drop)]
 struct Outcome {
     refusal: u32,
     traces: u32,

@@ -8,7 +8,7 @@ use writer::write;
 
 // A file, the first so many of these bytes, and the dice after it; its length is 0 where Write declined to make it.
 // There is room for 16 traces of four records. It goes by value: lending an array costs the prover more.
-#[derive(Drop)]
+#[derive(Clone, Copy, Drop)]
 pub struct File {
     pub bytes: [u8; 800],
     pub length: u32,
@@ -16,7 +16,7 @@ pub struct File {
 }
 
 // The traces drawn so far, their records one behind the other, and the dice after them.
-#[derive(Drop)]
+#[derive(Clone, Copy, Drop)]
 struct Joined {
     counts: [u16; 16],
     records: [u8; 800],

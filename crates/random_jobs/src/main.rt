@@ -1,5 +1,7 @@
 // Random job files, from a fixed seed: a whole job in one call by the engine against the second model's, and what
 // became of the list that was lent.
+#![tactic(auto)]
+
 mod calls;
 mod files;
 mod lists;
@@ -16,7 +18,7 @@ use tally::{Tally, nothing};
 
 const FILES: u32 = 8000;
 
-#[derive(Drop)]
+#[derive(Clone, Copy, Drop)]
 struct Turn {
     dice: Dice,
     tally: Tally,

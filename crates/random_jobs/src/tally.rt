@@ -4,7 +4,7 @@
 // above 0. Answers, those on which engine and model differ, lists that are not as they have to be, and how often each
 // refusal was the answer, 0 where nothing was declined. Of filled lists the places that were altered, and those behind
 // the first T that kept their former values; of the lists of declined calls the places that kept theirs.
-#[derive(Drop)]
+#[derive(Clone, Copy, Drop)]
 pub struct Tally {
     pub files: u32,
     pub empty: u32,

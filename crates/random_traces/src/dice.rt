@@ -3,7 +3,7 @@ ghost use Rattle.std.specs.Prelude.{◌<◌};
 
 pub const SEED: u64 = 88172645463325252;
 
-#[derive(Drop)]
+#[derive(Clone, Copy, Drop)]
 pub struct Dice {
     pub state: u64,
 }

@@ -1,5 +1,7 @@
 // Random traces for programs that hold the engine against the second model: the generator, bodies drawn from it,
 // and what the programs count with.
+#![tactic(auto)]
+
 mod counts;
 mod dice;
 mod traces;

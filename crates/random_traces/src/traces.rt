@@ -21,7 +21,7 @@ const JUMP: u32 = 4;
 const HITS: u32 = 17;
 
 // A body of n records and the dice after it.
-#[derive(Drop)]
+#[derive(Clone, Copy, Drop)]
 pub struct Draft {
     pub bytes: [u8; 120],
     pub n: usize,
@@ -30,7 +30,7 @@ pub struct Draft {
 
 // What a trace is drawn from: how many flags there are to choose among, whether a latency may be the
 // longest, h, and whether data latencies come near it.
-#[derive(Drop)]
+#[derive(Clone, Copy, Drop)]
 pub struct Style {
     pub flags: u64,
     pub long: bool,

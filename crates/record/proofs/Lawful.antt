@@ -1,7 +1,7 @@
 -- The rules refuse no kind, a jump's are a plain instruction's, and the others' are document 01's; a kind's number reads as that kind. By computation,
 -- kind by kind.
 use Prim.Native.Nat.{ℕ, zero, suc}
-use mathlib.Core.Bool.{◌||◌, or_false}
+use mathlib.Core.Bool.{◌||◌, or-false}
 use mathlib.Core.Path.{◌≡◌, refl}
 use native.Mathlib.Omega.{arith}
 use borrow.Author.Tests.{lt-ltb, ne_eqb}
@@ -29,7 +29,7 @@ above (suc (suc (suc (suc (suc n))))) other = rw (lt-ltb 4 (suc (suc (suc (suc (
 
 pub rules_kept : RulesKept
 unfolding breaks_rules breaks_before
-rules_kept f flags other = rw (above f.kind other, ne_eqb f.kind 4 other, or_false (eqb f.kind 0 || eqb f.kind 3))
+rules_kept f flags other = rw (above f.kind other, ne_eqb f.kind 4 other, or-false (eqb f.kind 0 || eqb f.kind 3))
 
 pub kind_is_read : KindIsRead
 unfolding kind_of

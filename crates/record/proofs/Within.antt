@@ -5,7 +5,7 @@ use mathlib.Core.List.{List}
 use mathlib.Core.Logic.{◌⊎◌, inl, inr}
 use mathlib.Core.Path.{◌≡◌, refl}
 use native.Mathlib.Omega.{arith}
-use borrow.Author.Tests.{ltb-false, eqb-true, eqb-false, eq-eqb, not_false}
+use borrow.Author.Tests.{ltb-false, eqb-true, eqb-false, eq-eqb, not-false}
 use lib.Dec.{ltb, eqb}
 use Rattle.record.specs.declared.layout.Fields.{Fields}
 use Rattle.record.specs.Layout.{execution_at, fetch_latency_at, data_latency_at, fields_from}
@@ -22,7 +22,7 @@ and_false true b e t = e
 and_false false b e t = cc
 
 zero_where : (test : Bool) (n : ℕ) → (test && not (eqb n 0)) ≡ false → test ≡ true → n ≡ 0
-zero_where test n e t = eqb-true n 0 (not_false (eqb n 0) (and_false test (not (eqb n 0)) e t))
+zero_where test n e t = eqb-true n 0 (not-false (eqb n 0) (and_false test (not (eqb n 0)) e t))
 
 above_where : (test : Bool) (n : ℕ) → (test && eqb n 0) ≡ false → test ≡ true → 1 ≤ n
 above_where test n e t = let some = eqb-false n 0 (and_false test (eqb n 0) e t) in omega arith

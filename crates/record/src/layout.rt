@@ -29,7 +29,7 @@ pub const DATA_LATENCY: usize = 8;
 // Flags are 0 hit, 1 miss, 2 unknown. In bytes that were never checked a flag may be 3, and a kind
 // anything up to 255.
 #[repr(C)]
-#[derive(Drop)]
+#[derive(Clone, Copy, Drop)]
 pub struct Fields {
     pub kind: u32,
     pub fetch: u32,
@@ -43,7 +43,7 @@ pub struct Fields {
 }
 
 #[repr(C)]
-#[derive(Drop)]
+#[derive(Clone, Copy, Drop)]
 pub struct Read {
     pub refusal: u32,
     pub fields: Fields,

@@ -1,5 +1,7 @@
 // The instruction record as bytes: where each field stands, how many records a body has, reading one
 // and writing one.
+#![tactic(auto)]
+
 pub mod layout;
 pub mod refusal;
 pub mod writing;

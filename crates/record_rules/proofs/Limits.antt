@@ -1,7 +1,7 @@
 -- A record's rules as limits that depend on its kind, which is how the code tests them. The tests of the flags byte agree by computation on each
 -- number below 16; the rest is by cases of the kind.
 use Prim.Native.Nat.{ℕ, zero, suc, ◌+◌, ◌/◌, ◌%◌, ◌<◌}
-use mathlib.Core.Bool.{Bool, true, false, not, cond, ◌||◌, beq, or_true, or_false}
+use mathlib.Core.Bool.{Bool, true, false, not, cond, ◌||◌, beq, or-true, or-false}
 use mathlib.Core.List.{List}
 use mathlib.Core.Path.{◌≡◌, refl, sym, ◌∙◌}
 use native.Mathlib.Omega.{arith}
@@ -44,7 +44,7 @@ abbrev bad_byte : ℕ → Bool
 bad_byte flags = eqb (flags % 4) 3 || eqb (flags / 4 % 4) 3 || ltb 15 flags
 
 bad_above : (n : ℕ) → 15 < n → bad_byte n ≡ true
-bad_above n l = rw (lt-ltb 15 n l) (or_true (eqb (n % 4) 3 || eqb (n / 4 % 4) 3))
+bad_above n l = rw (lt-ltb 15 n l) (or-true (eqb (n % 4) 3 || eqb (n / 4 % 4) 3))
 
 data_flags : (flags : ℕ) → (ltb 10 flags || eqb (flags % 4) 3) ≡ (bad_byte flags || false)
 unfolding every ◌and◌
@@ -66,7 +66,7 @@ no_data_flags =
 
 no_target : (target : ℕ) → ltb 0 target ≡ (ltb 31 target || not (eqb target 0))
 no_target zero = refl
-no_target (suc n) = rw (lt-ltb 0 (suc n) (omega arith), ne_eqb (suc n) 0 (omega arith)) (sym (or_true (ltb 31 (suc n))))
+no_target (suc n) = rw (lt-ltb 0 (suc n) (omega arith), ne_eqb (suc n) 0 (omega arith)) (sym (or-true (ltb 31 (suc n))))
 
 -- the rules test flags and stray data bits, target and stray target apart; the code makes one test of each pair
 regroup
@@ -121,13 +121,13 @@ module _ (flags source1 source2 target execution fetch_latency data_latency : �
       || beq (eqb kind 1 || eqb kind 2) (eqb data_latency 0))
       ≡ breaks_rules (fields kind) flags
   unfolding breaks_rules
-  by_kind zero = joined (not (eqb (flags / 4 % 4) 0)) false (no_data_flags flags) (sym (or_false (ltb 31 target))) (beq_false (eqb data_latency 0))
-  by_kind (suc zero) = joined false false (data_flags flags) (sym (or_false (ltb 31 target))) (beq_true (eqb data_latency 0))
+  by_kind zero = joined (not (eqb (flags / 4 % 4) 0)) false (no_data_flags flags) (sym (or-false (ltb 31 target))) (beq_false (eqb data_latency 0))
+  by_kind (suc zero) = joined false false (data_flags flags) (sym (or-false (ltb 31 target))) (beq_true (eqb data_latency 0))
   by_kind (suc (suc zero)) = joined false (not (eqb target 0)) (data_flags flags) (no_target target) (beq_true (eqb data_latency 0))
   by_kind (suc (suc (suc zero))) =
       joined (not (eqb (flags / 4 % 4) 0)) (not (eqb target 0)) (no_data_flags flags) (no_target target) (beq_false (eqb data_latency 0))
   by_kind (suc (suc (suc (suc zero)))) =
-      joined (not (eqb (flags / 4 % 4) 0)) false (no_data_flags flags) (sym (or_false (ltb 31 target))) (beq_false (eqb data_latency 0))
+      joined (not (eqb (flags / 4 % 4) 0)) false (no_data_flags flags) (sym (or-false (ltb 31 target))) (beq_false (eqb data_latency 0))
   by_kind (suc (suc (suc (suc (suc n))))) = rw (lt-ltb 4 (suc (suc (suc (suc (suc n))))) (omega arith))
 
 -- the code's test is the rules', for the fields and the flags byte of a record

@@ -1,6 +1,8 @@
 // Whether a record keeps its rules, whether a flag of one that does is unknown, and whether its data
 // latency is above the cycles of a data hit. Inner functions: each requires that the record is inside
 // the bytes.
+#![tactic(auto)]
+
 ghost use Rattle.std.specs.Prelude.{◌≡◌, false, cond, ◌+◌, ◌≤◌, length};
 ghost use Rattle.little_endian.specs.Numbers.{byte};
 ghost use Rattle.record.specs.Layout.{record_size, flags_at, fields_from};

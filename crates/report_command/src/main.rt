@@ -1,6 +1,8 @@
 // The report of the job file on standard input against the deadlines that the arguments give, with the
 // cycles of a data hit if the option gives them. Where there is nothing to report, one line says why
 // and what to give instead.
+#![tactic(auto)]
+
 mod tell;
 
 use deadlines::{Deadline, deadline_of};

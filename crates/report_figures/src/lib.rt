@@ -1,4 +1,6 @@
 // What a line of the report says of a trace; inner functions for the report.
+#![tactic(auto)]
+
 ghost use Rattle.std.specs.Prelude.{◌≡◌, ◌+◌, ◌≤◌};
 ghost use Rattle.record.specs.Rules.{flag_of};
 ghost use Rattle.record.specs.Body.{trace_of, trace_with, body_refusal, timed_refusal};
@@ -7,7 +9,7 @@ ghost use Rattle.report_figures.specs.Figures.{is_unknown, unknown_flags, line_o
 use record::{Fields, count, fields_at};
 use timing::best_worst;
 
-#[derive(Drop)]
+#[derive(Clone, Copy, Drop)]
 pub struct Line {
     pub number: u32,
     pub instructions: u32,

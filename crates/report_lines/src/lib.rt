@@ -1,5 +1,7 @@
 // The text of the report's lines: of a trace's, the margin, then the columns, each right-aligned; of the
 // cycles of a data hit; and of the last. Inner functions for the report.
+#![tactic(auto)]
+
 ghost use Rattle.std.specs.Prelude.{◌≡◌, ◌∷◌, ◌+◌, ◌≤◌, ◌<◌, length};
 ghost use Rattle.text.specs.Text.{Wrote, decimal, right};
 ghost use Rattle.report_lines.specs.Lines.{margin_text, column, line_text, line_bytes, hit_text, hit_bytes, last_text, last_bytes};

@@ -1,4 +1,6 @@
 // The report of a job file against deadlines, as text in a lent output.
+#![tactic(auto)]
+
 mod figures;
 pub mod whole;
 

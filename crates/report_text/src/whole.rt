@@ -28,14 +28,14 @@ pub const REPORT_BYTES: usize = (MAX_TRACES as usize + 1) * LINE_BYTES + HIT_BYT
 
 // `traces` is 0 for a refused file, and `length` is 0 where no report was written.
 #[repr(C)]
-#[derive(Drop)]
+#[derive(Clone, Copy, Drop)]
 pub struct Reported {
     pub refusal: u32,
     pub traces: u32,
     pub length: usize,
 }
 
-#[derive(Drop)]
+#[derive(Clone, Copy, Drop)]
 struct Lines {
     end: usize,
     met: u32,

@@ -14,7 +14,7 @@ use under_way::pass;
 // `cycles` is how many were run, the smaller of limit and finishing time, and `left` whether all
 // have left by then.
 #[repr(C)]
-#[derive(Drop)]
+#[derive(Clone, Copy, Drop)]
 pub struct Ran {
     pub refusal: u32,
     pub state: State,

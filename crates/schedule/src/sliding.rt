@@ -16,7 +16,7 @@ use record::Fields;
 
 // When an instruction enters each stage, `last` being ST or WB.
 #[repr(C)]
-#[derive(Drop)]
+#[derive(Clone, Copy, Drop)]
 pub struct Times {
     pub IF: u32,
     pub ID: u32,

@@ -16,7 +16,7 @@ use writer::Written;
 
 // A part of a file: where it starts and how long it is.
 #[repr(C)]
-#[derive(Drop)]
+#[derive(Clone, Copy, Drop)]
 pub struct Part {
     pub refusal: u32,
     pub start: usize,

@@ -1,6 +1,8 @@
 // The public calls for other languages, each under the prefix `sic_` with the C calling convention. A
 // slice is passed as a pointer and a length, a struct of numbers as C lays it out, and a part of a
 // file as where it starts and how long it is. include/sic.h says who owns what.
+#![tactic(auto)]
+
 mod files;
 mod states;
 mod times;

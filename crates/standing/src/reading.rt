@@ -9,7 +9,7 @@ use machine::{Slot, State};
 use record::{Fields, fields_at, no_fields_lem};
 
 // The fields of each slot's instruction, and of the next to be fetched.
-#[derive(Drop)]
+#[derive(Clone, Copy, Drop)]
 pub struct Standing {
     pub pre: Fields,
     pub IF: Fields,

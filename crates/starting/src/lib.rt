@@ -1,4 +1,6 @@
 // Which instructions could move in a cycle, if their next stage will be free.
+#![tactic(auto)]
+
 mod hazards;
 pub mod ready;
 

@@ -1,5 +1,7 @@
 // Text for a lent output: bytes, texts, decimal numbers, and numbers right-aligned in a column.
 // Inner functions for other crates: each requires room for its piece.
+#![tactic(auto)]
+
 pub mod aligned;
 pub mod put;
 

@@ -12,14 +12,14 @@ use decode::{HIT, MISS};
 use passing::finish_settled;
 
 #[repr(C)]
-#[derive(Drop)]
+#[derive(Clone, Copy, Drop)]
 pub struct Finished {
     pub refusal: u32,
     pub time: u32,
 }
 
 #[repr(C)]
-#[derive(Drop)]
+#[derive(Clone, Copy, Drop)]
 pub struct BestAndWorst {
     pub refusal: u32,
     pub best: u32,
@@ -28,14 +28,14 @@ pub struct BestAndWorst {
 
 // Below 0 the deadline is missed; 0 is met exactly.
 #[repr(C)]
-#[derive(Drop)]
+#[derive(Clone, Copy, Drop)]
 pub struct DeadlineMargin {
     pub refusal: u32,
     pub margin: i64,
 }
 
 #[repr(C)]
-#[derive(Drop)]
+#[derive(Clone, Copy, Drop)]
 pub struct Likeness {
     pub refusal: u32,
     pub alike: bool,

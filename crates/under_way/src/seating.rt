@@ -15,7 +15,7 @@ use settling::settled_at;
 
 // How many instructions are fetched by a limit, and the finishing time, or, where not all are fetched by
 // then, some time after the limit.
-#[derive(Drop)]
+#[derive(Clone, Copy, Drop)]
 pub struct Fetched {
     pub count: u32,
     pub finish: u32,

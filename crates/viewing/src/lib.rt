@@ -1,5 +1,7 @@
 // View for callers that hold no struct with a slice in it: a view is made of a body, and one
 // instruction is read through it.
+#![tactic(auto)]
+
 ghost use Rattle.std.specs.Prelude.{◌≡◌};
 ghost use Rattle.viewing.specs.Viewing.{read_through};
 
@@ -7,7 +9,7 @@ use record::Read;
 use views::{make_view, record_at};
 
 // The refusal on making the view, and what reading instruction k through it gave.
-#[derive(Drop)]
+#[derive(Clone, Copy, Drop)]
 pub struct Viewed {
     pub made: u32,
     pub read: Read,

@@ -1,4 +1,6 @@
 // View: a checked body carried along, and the fields of its instructions.
+#![tactic(auto)]
+
 ghost use Rattle.std.specs.Prelude.{◌≡◌};
 ghost use Rattle.record.specs.Body.{body_refusal, read_answer};
 ghost use Rattle.record.specs.Part.{StartsAt};
@@ -9,7 +11,7 @@ use record::{Read, fields_at};
 
 // A refusal's number and an empty part, or 0 and the body.
 #[repr(C)]
-#[derive(Drop)]
+#[derive(Clone, Copy, Drop)]
 pub struct View<'a> {
     pub refusal: u32,
     pub body: &'a [u8],

@@ -9,7 +9,7 @@ use timed_file::timed_file_refusal;
 
 // `traces` is how many the file has, and so how many places of the list are filled.
 #[repr(C)]
-#[derive(Drop)]
+#[derive(Clone, Copy, Drop)]
 pub struct WholeJob {
     pub refusal: u32,
     pub traces: u32,

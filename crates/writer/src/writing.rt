@@ -21,7 +21,7 @@ use machine::State;
 use record::layout::RECORD_SIZE;
 
 #[repr(C)]
-#[derive(Drop)]
+#[derive(Clone, Copy, Drop)]
 pub struct Written {
     pub refusal: u32,
     pub length: u32,

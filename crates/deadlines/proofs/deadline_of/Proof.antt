@@ -1,5 +1,5 @@
 -- `deadline_of` meets its contract: at the loop's head the bytes read are digits that make the cycles so far.
-use borrow.Author.Tests.{not_true, not_false}
+use borrow.Author.Tests.{not-true, not-false}
 use Prim.Native.Nat.{◌+◌, ◌*◌, ◌-◌, ◌≤◌, ◌<◌}
 use mathlib.Core.Path.{refl, sym, ◌∙◌}
 use native.Mathlib.Omega.{arith}
@@ -42,18 +42,18 @@ returns-2 c =
     let c₆ = c₅.before in
     c.no-deadline2.ensures
     ∙ sym (word_stray _ _ _ c₅.loop-test.true c₃.wide.ensures.0
-    (sym c.before.before.is_digit.ensures ∙ not_true _ c.before.if2.true) c₆.loop.invariant.2)
+    (sym c.before.before.is_digit.ensures ∙ not-true _ c.before.if2.true) c₆.loop.invariant.2)
 
 mul-cycles : tie.Need-overflow-mul-cycles invariant-loop decreases-loop
 mul-cycles c = omega (arith, c.before.before.before.before.before.loop.invariant.1)
 
 sub-cycles : tie.Need-overflow-sub-cycles invariant-loop decreases-loop
-sub-cycles c = omega (arith, (digit_within _ (sym c.before.is_digit.ensures ∙ not_false _ c.if2.false)).0)
+sub-cycles c = omega (arith, (digit_within _ (sym c.before.is_digit.ensures ∙ not-false _ c.if2.false)).0)
 
 add-cycles : tie.Need-overflow-add-cycles invariant-loop decreases-loop
 add-cycles c =
     let c₅ = c.before.before.before.before.before in
-    omega (arith, c₅.loop.invariant.1, (digit_within _ (sym c.before.is_digit.ensures ∙ not_false _ c.if2.false)).1)
+    omega (arith, c₅.loop.invariant.1, (digit_within _ (sym c.before.is_digit.ensures ∙ not-false _ c.if2.false)).1)
 
 no-deadline-requires-3 : tie.Need-no-deadline-requires-3 invariant-loop decreases-loop
 no-deadline-requires-3 c κs = tt
@@ -70,7 +70,7 @@ returns-3 c =
     c.no-deadline3.ensures
     ∙ sym (word_large word (c₇.loop.i + 1) n (omega (arith, c.before.if3.true))
     (reading_goes word c₇.loop.i c₇.loop.cycles c₆.loop-test.true c₄.wide.ensures.0
-    (sym c₃.is_digit.ensures ∙ not_false _ c.before.before.if2.false) refl c₇.loop.invariant.2))
+    (sym c₃.is_digit.ensures ∙ not-false _ c.before.before.if2.false) refl c₇.loop.invariant.2))
 
 add-i : tie.Need-overflow-add-i invariant-loop decreases-loop
 add-i c = omega (arith, c.before.before.before.before.before.loop-test.true)
@@ -86,7 +86,7 @@ loop-again c =
       omega (arith, c₅.loop-test.true),
       omega (arith, c.if3.false),
       reading_goes _ _ _ c₅.loop-test.true c₃.wide.ensures.0
-          (sym c.before.before.is_digit.ensures ∙ not_false _ c.before.if2.false) refl c₆.loop.invariant.2,
+          (sym c.before.before.is_digit.ensures ∙ not-false _ c.before.if2.false) refl c₆.loop.invariant.2,
     )
 
 cast-t14 : tie.Need-overflow-cast-t14 invariant-loop decreases-loop

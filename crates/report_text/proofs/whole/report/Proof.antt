@@ -2,7 +2,7 @@
 use Rattle.timed_file.specs.Refusal.{timed_file_refusal}
 use mathlib.Core.Path.{◌≡◌, sym, ◌∙◌}
 use native.Mathlib.Omega.{arith}
-use borrow.Author.Tests.{not_true, not_false}
+use borrow.Author.Tests.{not-true, not-false}
 use Rattle.report_text.proofs.Fits.{few_traces}
 use Rattle.report_text.proofs.Given.{refused, unserved, cramped, reported}
 use borrow.Author.Rules.{rules}
@@ -29,7 +29,7 @@ returns-2 c =
     let a = c₈.args in
     let accepted : timed_file_refusal a.file.now a.hit-cycles ≡ 0 = omega (arith, c₄.timed-file-refusal.ensures, c₃.if1.false) in
     unserved a.file.now a.deadlines.now a.out.now a.hit-cycles accepted c.before.before.half.ensures.0
-    (sym c.before.serve.ensures ∙ not_true _ c.if2.true)
+    (sym c.before.serve.ensures ∙ not-true _ c.if2.true)
 
 returns-3 : tie.Need-returns-3
 returns-3 c =
@@ -40,7 +40,7 @@ returns-3 c =
     let a = c₉.args in
     let accepted : timed_file_refusal a.file.now a.hit-cycles ≡ 0 = omega (arith, c₅.timed-file-refusal.ensures, c₄.if1.false) in
     cramped a.file.now a.deadlines.now a.out.now a.hit-cycles accepted c₃.half.ensures.0
-    (sym c.before.before.serve.ensures ∙ not_false _ c.before.if2.false) (omega (arith, c.if3.true))
+    (sym c.before.before.serve.ensures ∙ not-false _ c.before.if2.false) (omega (arith, c.if3.true))
 
 put-report-requires : tie.Need-put-report-requires
 put-report-requires c κs =
@@ -66,7 +66,7 @@ returns-4 c =
     let a = c₁₃.args in
     let accepted : timed_file_refusal a.file.now a.hit-cycles ≡ 0 = omega (arith, c₉.timed-file-refusal.ensures, c₈.if1.false) in
     reported a.file.now a.deadlines.now a.out.now a.hit-cycles accepted c₇.half.ensures.0
-    (sym c₆.serve.ensures ∙ not_false _ c₅.if2.false) (omega (arith, c₄.if3.false)) c.before.before.put-report.ensures
+    (sym c₆.serve.ensures ∙ not-false _ c₅.if2.false) (omega (arith, c₄.if3.false)) c.before.before.put-report.ensures
 
 pub report-spec : {M : Type 1} → statement M
 report-spec =
