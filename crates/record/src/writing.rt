@@ -32,5 +32,5 @@ pub fn put_record(body: &mut [u8], k: u32, f: Fields)
 {
     let at = k as usize * RECORD_SIZE;
     let record = record_bytes(f);
-    bytes::copy(&record, &mut body[at..]);
+    body[at..at + RECORD_SIZE].copy_from_slice(&record);
 }

@@ -117,7 +117,7 @@ fn put_records(records: &[u8], out: &mut [u8], at: usize)
     requires { at + length records.now ≤ length out.old }
     ensures { out.new ≡ take at out.old ++ records.now ++ drop (at + length records.now) out.old }
 {
-    bytes::copy(records, &mut out[at..]);
+    out[at..at + records.len()].copy_from_slice(records);
 }
 
 pub fn write(counts: &[u16], records: &[u8], out: &mut [u8]) -> Written
