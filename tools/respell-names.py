@@ -167,6 +167,8 @@ def main(argv):
     root = argv[0] if argv else os.path.join(os.path.dirname(os.path.realpath(__file__)), "..")
     places = declared(root)
     turned = table(places)
+    # What code and pages call by a name in snake case is a function of src/, which keeps it.
+    outside = {old: new for old, new in turned.items() if is_old(old)}
     if say:
         for old in sorted(turned):
             print(old, turned[old])
@@ -181,7 +183,7 @@ def main(argv):
         return 0
     for path in texts(os.path.join(root, "crates"), ".antt", ".rt"):
         text = read(path)
-        new = turn_file(path, text, turned)
+        new = turn_file(path, text, outside if path.endswith(".rt") else turned)
         if new != text:
             with open(path, "w", encoding="utf-8") as f:
                 f.write(new)
@@ -189,7 +191,7 @@ def main(argv):
         if not os.path.exists(path):
             continue
         text = read(path)
-        new = turn_page(text, turned)
+        new = turn_page(text, outside)
         if new != text:
             with open(path, "w", encoding="utf-8") as f:
                 f.write(new)

@@ -45,7 +45,7 @@ fn count_at(counts: &[u32], i: usize) -> u32 {
 }
 
 // The place of instruction i.
-pub fn place_at_lem(stages: &[u8], counts: &[u32], i: usize) -> Place {
+pub fn place_at(stages: &[u8], counts: &[u32], i: usize) -> Place {
     Place {
         stage: stage_at(stages, i),
         count: count_at(counts, i),

@@ -5,7 +5,7 @@ ghost use Rattle.std.specs.Prelude.{◌≤◌};
 
 use super::next_stage::next;
 use super::older::{Older, none, one_more, ready};
-use super::places::{EX, ID, IF, MEM, POST, Place, ST, WB, place_at_lem, put};
+use super::places::{EX, ID, IF, MEM, POST, Place, ST, WB, place_at, put};
 use super::sets::{has, with_if};
 use super::trace::{BRANCH, Instruction, JUMP, LOAD, MISS, PLAIN, STORE, instruction_at, size};
 
@@ -51,7 +51,7 @@ fn all_standing<'a>(body: &'a [u8], stages: &'a [u8], counts: &'a [u32]) -> Stan
     let mut s = nothing();
     let mut i = 0;
     while i < n {
-        let at = place_at_lem(stages, counts, i);
+        let at = place_at(stages, counts, i);
         if at.stage != POST {
             let x = instruction_at(body, i);
             s = seen(s, x.kind, at, ready(x, at.stage, older));
@@ -166,7 +166,7 @@ fn move_one(
 ) -> Older
     requires { i ≤ 4096 }
 {
-    let at = place_at_lem(stages, counts, i);
+    let at = place_at(stages, counts, i);
     if at.stage == POST {
         return older;
     }

@@ -29,7 +29,7 @@ pub fn under_way<'a>(body: &'a [u8], stages: &'a [u8], counts: &'a [u32]) -> u32
     let mut found: u32 = 0;
     let mut i = 0;
     while i < n {
-        let at = model::place_at_lem(stages, counts, i);
+        let at = model::place_at(stages, counts, i);
         found += one_if(is_under_way(model::instruction_at(body, i), at));
         i += 1;
     }

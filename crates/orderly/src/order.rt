@@ -9,7 +9,7 @@ ghost use Rattle.orderly.specs.Inner.{count_of, stores_apart, all_counted};
 use decode::{count_in_if, count_in_mem, count_in_st, is_store};
 use machine::{Slot, State};
 use standing::Standing;
-use turns::{in_flight, in_order_lem};
+use turns::{in_flight, in_order};
 
 // No count above the entry count; an empty slot has index 0 and count 0.
 fn counted(held: Slot, entry: u32) -> bool
@@ -44,5 +44,5 @@ fn all_counted(s: State, w: Standing, hit_cycles: u32) -> bool
 pub fn orderly(n: u32, s: State, w: Standing, hit_cycles: u32) -> bool
     ensures { (trace : Trace) → Reads trace s w → length trace ≡ n → result ≡ orderly (with_hits hit_cycles trace) s }
 {
-    in_order_lem(n, s) & stores_apart(s, w) & all_counted(s, w, hit_cycles)
+    in_order(n, s) & stores_apart(s, w) & all_counted(s, w, hit_cycles)
 }

@@ -3,4 +3,4 @@
 
 pub mod places;
 
-pub use places::{Place, place_at_lem};
+pub use places::{Place, place_at};

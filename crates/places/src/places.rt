@@ -29,7 +29,7 @@ fn last_stage(f: Fields) -> u32
     number(next(kind(f), Stage::MEM))
 }
 
-pub fn place_at_lem(f: Fields, e: Times, t: u32, hit_cycles: u32) -> Place
+pub fn place_at(f: Fields, e: Times, t: u32, hit_cycles: u32) -> Place
     ensures { result ≡ numbered (place_at (with_hit hit_cycles (instruction_of f)) (times_of e) t) }
 {
     if t < e.IF {

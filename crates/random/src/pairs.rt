@@ -96,8 +96,8 @@ fn row_ordered<'a>(
 ) -> bool {
     let mut i = 0;
     while i < n {
-        let first = model::place_at_lem(stages, counts, i);
-        let second = model::place_at_lem(later_stages, later_counts, i);
+        let first = model::place_at(stages, counts, i);
+        let second = model::place_at(later_stages, later_counts, i);
         if further(second, first) {
             return false;
         }

@@ -77,7 +77,7 @@ pub fn fields_from(bytes: &[u8], at: usize) -> Fields
 }
 
 // All zeros, where there is no instruction.
-pub fn no_fields_lem() -> Fields
+pub fn no_fields() -> Fields
     ensures { result ≡ no_fields }
 {
     Fields {
@@ -102,7 +102,7 @@ pub fn fields_at(body: &[u8], k: u32) -> Read
         let fields = fields_from(body, i * RECORD_SIZE);
         return Read { refusal: 0, fields };
     }
-    let fields = no_fields_lem();
+    let fields = no_fields();
     Read {
         refusal: OUT_OF_RANGE,
         fields,

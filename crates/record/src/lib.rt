@@ -6,5 +6,5 @@ pub mod layout;
 pub mod refusal;
 pub mod writing;
 
-pub use layout::{Fields, Read, count, fields_at, no_fields_lem};
+pub use layout::{Fields, Read, count, fields_at, no_fields};
 pub use writing::put_record;

@@ -12,7 +12,7 @@ ghost use Rattle.seats.specs.Inner.{state_with, slot_seated, state_seated, Seate
 
 use machine::stage::{EX, ID, IF, MEM, ST, WB};
 use machine::{Slot, State};
-use places::place_at_lem;
+use places::place_at;
 use record::Fields;
 use schedule::Times;
 
@@ -26,7 +26,7 @@ pub fn seat(seats: &mut [u32; SEATS], f: Fields, e: Times, limit: u32, k: u32, h
     requires { (length seats.old ≡ 13) × (e.IF ≤ limit) × (limit < e.post) × (k + 1 < 2 ^ 32) }
     ensures { Seated seats.new (k + 1) (state_with (numbered (place_at (with_hit hit_cycles (instruction_of f)) (times_of e) limit)) k (state_seated seats.old k)) }
 {
-    let p = place_at_lem(f, e, limit, hit_cycles);
+    let p = place_at(f, e, limit, hit_cycles);
     let at = p.stage as usize;
     seats[at] = k + 1;
     seats[COUNTS + at] = p.count;

@@ -6,7 +6,7 @@ ghost use Rattle.record.specs.Body.{trace_of};
 ghost use Rattle.standing.specs.Inner.{Reads};
 
 use machine::{Slot, State};
-use record::{Fields, fields_at, no_fields_lem};
+use record::{Fields, fields_at, no_fields};
 
 // The fields of each slot's instruction, and of the next to be fetched.
 #[derive(Clone, Copy, Drop)]
@@ -34,7 +34,7 @@ fn held_fields(body: &[u8], held: Slot) -> Fields
     if held.filled {
         return fields(body, held.index);
     }
-    no_fields_lem()
+    no_fields()
 }
 
 pub fn read_stages(body: &[u8], s: State) -> Standing

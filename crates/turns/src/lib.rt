@@ -4,4 +4,4 @@
 
 pub mod order;
 
-pub use order::{in_flight, in_order_lem};
+pub use order::{in_flight, in_order};

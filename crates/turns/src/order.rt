@@ -33,7 +33,7 @@ pub fn in_flight(s: State) -> u64
 }
 
 // The fetched count is at most n; in IF to MEM and in WB the instructions are in turn.
-pub fn in_order_lem(n: u32, s: State) -> bool
+pub fn in_order(n: u32, s: State) -> bool
     ensures { result ≡ in_order n s }
 {
     let before_ID = filled(s.IF);
