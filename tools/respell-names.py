@@ -50,9 +50,12 @@ def declared(root):
     for path in texts(os.path.join(root, "crates"), ".antt"):
         if OF_FUNCTION.search(path):
             continue
-        for line in read(path).split("\n"):
+        lines = read(path).split("\n")
+        for line, following in zip(lines, lines[1:] + [""]):
             if line.lstrip().startswith("--"):
                 continue
+            if following.lstrip().startswith(": "):
+                line += " :"
             m = DECLARED.match(line.split(" -- ")[0])
             for name in m[1].split() if m else ():
                 if name not in KEYWORDS:

@@ -60,12 +60,12 @@ slots_short a b c = (slots_are_short a b c).within
 three : (a b c d : List ℕ) → a ++ (b ++ c ++ d) ≡ a ++ b ++ c ++ d
 three a b c d = sym (append_assoc a (b ++ c) d) ∙ ap (λ (t : List ℕ). t ++ d) (sym (append_assoc a b c))
 
-pub row-joined
+pub row_joined
     : (n : ℕ) (s : State) →
     decimal n ++ (slot_text s.IF ++ slot_text s.ID ++ slot_text s.EX) ++ (slot_text s.MEM ++ slot_text s.ST ++ slot_text s.WB) ++ (10 ∷ [])
     ≡ row_text n s
 unfolding row_text
-row-joined n s =
+row_joined n s =
     let slots = decimal n ++ (slot_text s.IF ++ slot_text s.ID ++ slot_text s.EX) in
     ap (λ (t : List ℕ). t ++ (10 ∷ []))
     (three slots (slot_text s.MEM) (slot_text s.ST) (slot_text s.WB)
@@ -74,13 +74,13 @@ row-joined n s =
 
 pub row_is_short : (n : ℕ) (s : State) → Short row_bytes (row_text n s)
 row_is_short n s =
-    rw (sym (row-joined n s))
+    rw (sym (row_joined n s))
     (both
     (both (both (number n) (slots_are_short s.IF s.ID s.EX)) (slots_are_short s.MEM s.ST s.WB))
     (one 10))
 
 -- the last line, whose numbers are put each with its label
-pub times-joined
+pub times_joined
     : (latest earliest : ℕ) →
     (119 ∷ 111 ∷ 114 ∷ 115 ∷ 116 ∷ 32 ∷ [])
     ++ decimal latest
@@ -88,7 +88,7 @@ pub times-joined
     ++ (10 ∷ [])
     ≡ times_text latest earliest
 unfolding times_text
-times-joined latest earliest =
+times_joined latest earliest =
     let worst = (119 ∷ 111 ∷ 114 ∷ 115 ∷ 116 ∷ 32 ∷ []) ++ decimal latest in
     ap (λ (t : List ℕ). t ++ (10 ∷ [])) (sym (append_assoc worst (32 ∷ 98 ∷ 101 ∷ 115 ∷ 116 ∷ 32 ∷ []) (decimal earliest)))
 

@@ -37,17 +37,17 @@ left_by trace limit time e =
 
 -- what Run and Margin answer for a case, by the refusals of its body and its times
 module _ (c : Case) where
-  run-known
+  run_known
       : settled_refusal (body_of c.trace) c.hits ≡ refusal_of c.trace → known c.trace ≡ true → finish (timed c) ≡ c.worst → (limit : ℕ) →
       run_answer (body_of c.trace) limit c.hits ≡ run_of c limit
   unfolding run_answer ran_for run_of refusal_of
-  run-known checked k e limit = rw (checked, k, timed_again c.trace c.hits, e, left_by (timed c) limit c.worst e)
+  run_known checked k e limit = rw (checked, k, timed_again c.trace c.hits, e, left_by (timed c) limit c.worst e)
 
-  run-unknown
+  run_unknown
       : settled_refusal (body_of c.trace) c.hits ≡ refusal_of c.trace → known c.trace ≡ false → (limit : ℕ) →
       run_answer (body_of c.trace) limit c.hits ≡ run_of c limit
   unfolding run_answer run_of refusal_of
-  run-unknown checked k limit = rw (checked, k)
+  run_unknown checked k limit = rw (checked, k)
 
   margin_of_lem : timed_refusal (body_of c.trace) c.hits ≡ 0 → worst (timed c) ≡ c.worst → (deadline : ℕ) → margin_answer (body_of c.trace) deadline c.hits ≡ margin_of c deadline
   unfolding margin_answer margin_of
@@ -70,8 +70,8 @@ module _ (c : Case) where
           Value (known c.trace) →
           (limit : ℕ) →
           run_answer (body_of c.trace) limit c.hits ≡ run_of c limit
-      by_flags checked time (passed k) = run-known checked k (eqb-true _ _ (implies _ _ time k))
-      by_flags checked time (failed k) = run-unknown checked k
+      by_flags checked time (passed k) = run_known checked k (eqb-true _ _ (implies _ _ time k))
+      by_flags checked time (failed k) = run_unknown checked k
 
   margin_tested : margins ≡ true → (deadline : ℕ) → margin_answer (body_of c.trace) deadline c.hits ≡ margin_of c deadline
   unfolding margins

@@ -14,7 +14,7 @@ use Rattle.machine.proofs.Hits.{hit_at, hits_settle, hits_delayed, settling_hits
 use Rattle.machine.proofs.Settled.{settling_length}
 use Rattle.machine.proofs.Delays.{delayed_length}
 use Rattle.record.specs.Body.{records, trace_of, trace_with, hit_refusal, timed_refusal, settled_refusal}
-use Rattle.record.proofs.Accepted.{hits-of, few_cycles, body_hits, timed_hits, settled_timed}
+use Rattle.record.proofs.Accepted.{hits_of, few_cycles, body_hits, timed_hits, settled_timed}
 use Rattle.record.proofs.Instructions.{length_trace_of}
 use Rattle.claims.specs.Claim.{Passes}
 
@@ -31,7 +31,7 @@ module _ {h : ℕ} {body : List ℕ} where
 -- a body whose trace has such data latencies for h is not declined
 pub takes_passes : (h : ℕ) (body other : List ℕ) → hit_refusal body h ≡ 0 → HitsTake h (trace_with other h) → hit_refusal other h ≡ 0
 takes_passes h body other passes takes =
-    hits-of other h (few_cycles body h passes) λ k l e.
+    hits_of other h (few_cycles body h passes) λ k l e.
     let this = instruction_hits h (trace_of other) k in
     subst (λ (i : Instruction). h < i.data_latency) this
     ((hit_at (trace_with other h) takes k).above (ap (λ (i : Instruction). has_access i.kind) this ∙ e))

@@ -56,13 +56,13 @@ module _ (trace : Trace) (s : State) where
       ∙ ap (λ (m : Bool). same k post or (not (occupied trace s k) or m)) e
       ∙ sym (free_at_lem (goes trace s) (occupied trace s) (kinds_in trace s) k)
 
-  moves-same
+  moves_same
       : (k : Stage) →
       same k post ≡ false →
       free (starts trace s) (next_in (is_store (kinds_in trace s k)) k) ≡ free (goes trace s) (next_in (is_store (kinds_in trace s k)) k) →
       (free (goes trace s) (next_in (is_store (kinds_in trace s k)) k) ≡ true → opens_after s k ≡ true) →
       moving (starts trace s) k ≡ moving (goes trace s) k
-  moves-same k n f o =
+  moves_same k n f o =
       let lane = next_in_lem (kinds_in trace s k) k in
       moves_at_lem (starts trace s) (occupied trace s) (kinds_in trace s) k n
       ∙ ap (λ (b : Bool). starts trace s k and b) (ap (free (starts trace s)) lane ∙ f)
@@ -76,11 +76,11 @@ module _ (trace : Trace) (s : State) where
 
   from_ST : moving (starts trace s) ST ≡ moving (goes trace s) ST
   unfolding next_in
-  from_ST = moves-same ST refl (free_same post from_post) (λ _. refl)
+  from_ST = moves_same ST refl (free_same post from_post) (λ _. refl)
 
   from_WB : moving (starts trace s) WB ≡ moving (goes trace s) WB
   unfolding next_in
-  from_WB = moves-same WB refl (free_same post from_post) (λ _. refl)
+  from_WB = moves_same WB refl (free_same post from_post) (λ _. refl)
 
   into_last : (store : Bool) → free (starts trace s) (cond store ST WB) ≡ free (goes trace s) (cond store ST WB)
   into_last true = free_same ST from_ST
@@ -88,23 +88,23 @@ module _ (trace : Trace) (s : State) where
 
   from_MEM : moving (starts trace s) MEM ≡ moving (goes trace s) MEM
   unfolding next_in
-  from_MEM = moves-same MEM refl (into_last (is_store (kinds_in trace s MEM))) (λ _. refl)
+  from_MEM = moves_same MEM refl (into_last (is_store (kinds_in trace s MEM))) (λ _. refl)
 
   from_EX : moving (starts trace s) EX ≡ moving (goes trace s) EX
   unfolding next_in standing
-  from_EX = moves-same EX refl (free_same MEM from_MEM) (opened MEM refl)
+  from_EX = moves_same EX refl (free_same MEM from_MEM) (opened MEM refl)
 
   from_ID : moving (starts trace s) ID ≡ moving (goes trace s) ID
   unfolding next_in standing
-  from_ID = moves-same ID refl (free_same EX from_EX) (opened EX refl)
+  from_ID = moves_same ID refl (free_same EX from_EX) (opened EX refl)
 
   from_IF : moving (starts trace s) IF ≡ moving (goes trace s) IF
   unfolding next_in standing
-  from_IF = moves-same IF refl (free_same ID from_ID) (opened ID refl)
+  from_IF = moves_same IF refl (free_same ID from_ID) (opened ID refl)
 
   from_pre : moving (starts trace s) pre ≡ moving (goes trace s) pre
   unfolding next_in standing
-  from_pre = moves-same pre refl (free_same IF from_IF) (opened IF refl)
+  from_pre = moves_same pre refl (free_same IF from_IF) (opened IF refl)
 
   by_starts : (k : Stage) → moving (starts trace s) k ≡ leaves trace s k
   unfolding leaves
@@ -123,12 +123,12 @@ module _ (trace : Trace) (s : State) where
 
   -- for kinds that are those of all that stand in the stages
   module _ {kinds : Stage → Kind} (read : (k : Stage) → (standing trace s k).filled ≡ true → kinds k ≡ kinds_in trace s k) where
-    pub leaving-is
+    pub leaving_is
         : {going full : ℕ} →
         going ≡ mask_of (starts trace s) →
         full ≡ mask_of (occupied trace s) →
         bits_of (moves_at (bits going) (bits full) kinds) ≡ bits_of (leaves trace s)
-    leaving-is g f =
+    leaving_is g f =
         ap bits_of
         (fun_ext λ k.
         (λ i. moves_at (bits (g i)) (bits (f i)) kinds k)

@@ -33,16 +33,16 @@ unfolding ◌or◌
 load_hit true store missed n h = refl
 load_hit false store missed n h = refl
 
-cycles-more
+cycles_more
     : (h : ℕ) (i : Instruction) →
     AccessLawful i →
     Value (is_store i.kind) →
     Value (misses i.access) →
     cond (is_store i.kind) (cond (misses i.access) i.data_latency (h + 1)) 1 ≡ last_count (with_hit h i) + 1
 unfolding last_count entry
-cycles-more h i lawful (passed e) (passed m) = rw (e, m) (let some = lawful.some_access e in omega arith)
-cycles-more h i lawful (passed e) (failed m) = rw (or_r (is_load i.kind) _ e, e, m)
-cycles-more h i lawful (failed e) m = rw e
+cycles_more h i lawful (passed e) (passed m) = rw (e, m) (let some = lawful.some_access e in omega arith)
+cycles_more h i lawful (passed e) (failed m) = rw (or_r (is_load i.kind) _ e, e, m)
+cycles_more h i lawful (failed e) m = rw e
 
 module _ (f : Fields) where
   abbrev i : Instruction
@@ -82,7 +82,7 @@ module _ (f : Fields) where
     last_count_lem p q s = s ∙ rw (p, q)
 
     -- one cycle more than the count, which for a store that misses is the latency less 1
-    pub last-cycles
+    pub last_cycles
         : AccessLawful i →
         {store missed : Bool} {taken r : ℕ} →
         store ≡ is_store i.kind →
@@ -91,4 +91,4 @@ module _ (f : Fields) where
         r ≡ cond store taken 1 →
         r ≡ last_count (with_hit h i) + 1
     unfolding instruction_of
-    last-cycles lawful p m t q = q ∙ rw (t, p, m) (cycles-more h i lawful (value (is_store i.kind)) (value (misses i.access)))
+    last_cycles lawful p m t q = q ∙ rw (t, p, m) (cycles_more h i lawful (value (is_store i.kind)) (value (misses i.access)))

@@ -26,15 +26,15 @@ length_body_of (i ∷ trace) = rw (length-append, length_record_of, length_body_
 pub records_body_of : (trace : Trace) → records (body_of trace) ≡ length trace
 records_body_of trace = rw (length_body_of trace) (omega arith)
 
-pub byte-bodyOf
+pub byte_body_of
     : (trace : Trace) (k j : ℕ) →
     k < length trace →
     j < record_size →
     byte (body_of trace) (k * record_size + j) ≡ byte (record_of (instruction trace k)) j
 unfolding body_of
-byte-bodyOf [] k j l u = absurd (not-suc-le-zero l)
-byte-bodyOf (i ∷ trace) zero j l u = rw (zero-add j) (get_or-append (record_of i) (body_of trace) 0 j (rw length_record_of u))
-byte-bodyOf (i ∷ trace) (suc k) j l u =
+byte_body_of [] k j l u = absurd (not-suc-le-zero l)
+byte_body_of (i ∷ trace) zero j l u = rw (zero-add j) (get_or-append (record_of i) (body_of trace) 0 j (rw length_record_of u))
+byte_body_of (i ∷ trace) (suc k) j l u =
     let at : suc k * record_size + j ≡ length (record_of i) + (k * record_size + j) = rw length_record_of (omega arith) in
     rw at (get_or-append-add (record_of i) (body_of trace) (k * record_size + j) 0)
-    ∙ byte-bodyOf trace k j (le_of_suc-le-suc l) u
+    ∙ byte_body_of trace k j (le_of_suc-le-suc l) u

@@ -17,11 +17,11 @@ use Rattle.record.specs.Body.{Bytes, records, fields_at, breaks_at, firsts, trac
 use Rattle.record.specs.declared.layout.Fields.{Fields}
 use Rattle.encoding.specs.Encoding.{record_of, body_of}
 use Rattle.encoding.specs.Claims.{AcceptedIsEncoded, EncodingIsDecoded}
-use Rattle.record.proofs.Alike.{fields-alike}
+use Rattle.record.proofs.Alike.{fields_alike}
 use Rattle.record.proofs.Lawful.{kind_is_read}
-use Rattle.record.proofs.Accepted.{accepted-of, whole_records, flags_byte, fields_within}
+use Rattle.record.proofs.Accepted.{accepted_of, whole_records, flags_byte, fields_within}
 use Rattle.record.proofs.Instructions.{get_or_firsts, length_trace_of, instruction_trace_of}
-use Rattle.encoding.proofs.Encoding.{length_body_of, records_body_of, byte-bodyOf}
+use Rattle.encoding.proofs.Encoding.{length_body_of, records_body_of, byte_body_of}
 use Rattle.encoding.proofs.Fits.{encoding_is_bytes}
 use Rattle.encoding.proofs.Numbers.{flag_of_number, number_kind_of, number_flag_of, flags_of_parts}
 use Rattle.encoding.proofs.Record.{fields_of_lem}
@@ -56,7 +56,7 @@ module _ (body : List ℕ) (b : Bytes body) (accepted : body_refusal body ≡ 0)
 
   byte_again : (k j : ℕ) → k < records body → j < record_size → byte (body_of (trace_of body)) (k * record_size + j) ≡ byte body (k * record_size + j)
   byte_again k j l u =
-      byte-bodyOf (trace_of body) k j (rw (length_trace_of body) l) u
+      byte_body_of (trace_of body) k j (rw (length_trace_of body) l) u
       ∙ ap (λ (i : Instruction). byte (record_of i) j) (instruction_trace_of body k l)
       ∙ ap
       (λ (record-k : List ℕ). byte record-k j)
@@ -89,10 +89,10 @@ decoded_none i none =
 
 module _ (trace : Trace) (k : ℕ) (l : k < length trace) where
   record_byte : (j : ℕ) → j < record_size → byte (body_of trace) (k * record_size + j) ≡ byte (record_of (instruction trace k)) (0 + j)
-  record_byte j u = rw (zero-add j) (byte-bodyOf trace k j l u)
+  record_byte j u = rw (zero-add j) (byte_body_of trace k j l u)
 
   pub fields_body_of : fields_at (body_of trace) k ≡ fields_from (record_of (instruction trace k)) 0
-  fields_body_of = fields-alike _ _ _ _ record_byte
+  fields_body_of = fields_alike _ _ _ _ record_byte
 
   breaks_body_of : breaks_at (body_of trace) k ≡ breaks_at (record_of (instruction trace k)) 0
   unfolding breaks_at
@@ -125,7 +125,7 @@ pub encoding_is_decoded : EncodingIsDecoded
 encoding_is_decoded trace few lawful = (
   trace_again trace (λ k l. (lawful k l).hit_cycles),
   encoding_is_bytes trace lawful,
-  accepted-of (body_of trace) (rw (records_body_of trace) (length_body_of trace)) (rw (records_body_of trace) few) λ k l.
+  accepted_of (body_of trace) (rw (records_body_of trace) (length_body_of trace)) (rw (records_body_of trace) few) λ k l.
       let inside : k < length trace = omega (arith, records_body_of trace) in
       breaks_body_of trace k inside ∙ (lawful k inside).rules,
 )

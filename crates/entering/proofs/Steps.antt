@@ -24,7 +24,7 @@ module _ (f : Fields) where
   i = instruction_of f
 
   module _ (w : Window) where
-    pub IF-step
+    pub IF_step
         : {waited r access : ℕ} {hit : Bool} →
         hit ≡ hits i.fetch →
         access ≡ max w.load_done w.store_done →
@@ -32,22 +32,22 @@ module _ (f : Fields) where
         r ≡ max w.next_fetch waited →
         r ≡ enter_IF (window_of w) i
     unfolding enter_IF
-    IF-step a b c d = d ∙ rw (c, b, a)
+    IF_step a b c d = d ∙ rw (c, b, a)
 
     pub ID_step : (from : ℕ) {count r : ℕ} → count ≡ entry i IF → r ≡ max (from + (count + 1)) w.EX → r ≡ enter_ID (window_of w) i from
     unfolding enter_ID
     ID_step from a b = b ∙ rw (a, sum_joins from (entry i IF) 1)
 
-    pub EX-step
+    pub EX_step
         : (from : ℕ) {free r : ℕ} {needed : Bool} →
         needed ≡ reads_in_ID i w.load_target →
         free ≡ cond needed w.last w.MEM →
         r ≡ max (from + 1) free →
         r ≡ enter_EX (window_of w) i from
     unfolding enter_EX
-    EX-step from a b c = c ∙ rw (b, a)
+    EX_step from a b c = c ∙ rw (b, a)
 
-    pub MEM-step
+    pub MEM_step
         : (from : ℕ) {held store r : ℕ} {missed : Bool} →
         missed ≡ misses_data i →
         store ≡ cond missed w.store_done 0 →
@@ -55,7 +55,7 @@ module _ (f : Fields) where
         r ≡ max (from + (f.execution + 1)) held →
         r ≡ enter_MEM (window_of w) i from
     unfolding enter_MEM entry instruction_of
-    MEM-step from {store = store} a b c d = d ∙ rw (c, max_joins (from + (f.execution + 1)) w.last store, sum_joins from f.execution 1, b, a)
+    MEM_step from {store = store} a b c d = d ∙ rw (c, max_joins (from + (f.execution + 1)) w.last store, sum_joins from f.execution 1, b, a)
 
     pub last_step
         : (from h : ℕ) {count store r : ℕ} {stores : Bool} →

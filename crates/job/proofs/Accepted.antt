@@ -60,7 +60,7 @@ file_fine file e =
     }
 
 -- one check of all records after the table gives the refusal of all traces
-pub records-checked
+pub records_checked
     : (file : List ℕ) (count r : ℕ) →
     TableFine file →
     count ≡ traces file →
@@ -68,7 +68,7 @@ pub records-checked
     r ≡ record_refusal (take (length file - entry_at count) (drop (entry_at count) file)) →
     r ≡ (wrong_end unless eqb (length file) (start_at file (traces file)) then traces_refusal file)
 unfolding ◌unless◌ ◌then◌
-records-checked file count r fine e ends said =
+records_checked file count r fine e ends said =
     said
     ∙ ap (λ (n : ℕ). record_refusal (take (length file - entry_at n) (drop (entry_at n) file))) e
     ∙ ap
@@ -89,12 +89,12 @@ body_fits file fine t l =
     omega arith
 
 -- a body starts at its entry's offset, and ends where the next one starts
-pub bounds-read
+pub bounds_read
     : (file : List ℕ) → file_refusal file ≡ 0 → (t : ℕ) → t < traces file → {start count : ℕ} →
     start ≡ offset_at file t →
     count ≡ count_at file t →
     record { start = start; end = start + record_size * count } ≡ bounds_at file t
-bounds-read file e t l s c =
+bounds_read file e t l s c =
     let at = s ∙ ((file_fine file e).entries t l).1 in
     rw (start_suc (traces file) (count_at file) t, at, c)
 
@@ -108,11 +108,11 @@ module _ (file : List ℕ) (trace : ℕ) where
   unfolding locate_answer
   locate_refused r e h = rw (← e, ne_eqb _ _ h)
 
-  pub locate-found
+  pub locate_found
       : (b : Bounds) → file_refusal file ≡ 0 → trace < traces file → b ≡ bounds_at file trace →
       locate_answer file trace ≡ record { refusal = 0; start = b.start; end = b.end }
   unfolding locate_answer
-  locate-found b e l f = rw (eq-eqb _ _ (open_accepted e l), f)
+  locate_found b e l f = rw (eq-eqb _ _ (open_accepted e l), f)
 
   pub open_out : (n : ℕ) → file_refusal file ≡ 0 → n ≡ traces file → n ≤ trace → open_refusal file trace ≡ out_of_range
   unfolding open_refusal ◌unless◌

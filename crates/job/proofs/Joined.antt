@@ -13,7 +13,7 @@ use Rattle.record.specs.Refusal.{◌then◌, ◌unless◌, broken_record}
 use Rattle.little_endian.specs.Numbers.{byte}
 use Rattle.record.specs.Layout.{record_size}
 use Rattle.record.specs.Body.{records, breaks_at, record_refusal}
-use Rattle.record.proofs.Alike.{breaks-alike}
+use Rattle.record.proofs.Alike.{breaks_alike}
 use Rattle.job.specs.Refusal.{first_refusal}
 use Rattle.job.specs.Layout.{traces, count_at, entry_at, before, start_at, body_at, records_of}
 use Rattle.job.specs.Open.{traces_refusal}
@@ -57,7 +57,7 @@ module _ (file : List ℕ) (ends : length file ≡ start_at file (traces file)) 
 
   record_same : (t : ℕ) → t < traces file → (k : ℕ) → k < count_at file t → breaks_at (body_at file t) k ≡ breaks_at (records_of file) (before (count_at file) t + k)
   record_same t l k lk =
-      breaks-alike _ _ k (before (count_at file) t + k) λ j lj.
+      breaks_alike _ _ k (before (count_at file) t + k) λ j lj.
       let e = start_before (traces file) (count_at file) t in
       let place : start_at file t + (k * record_size + j) ≡ entry_at (traces file) + ((before (count_at file) t + k) * record_size + j) = omega arith in
       get_or-take (record_size * count_at file t) (drop (start_at file t) file) (k * record_size + j) 0 (omega arith)
@@ -65,11 +65,11 @@ module _ (file : List ℕ) (ends : length file ≡ start_at file (traces file)) 
       ∙ ap (byte file) place
       ∙ sym (get_or-drop (entry_at (traces file)) file ((before (count_at file) t + k) * record_size + j) 0)
 
-  body-refusal
+  body_refusal_lem
       : (t : ℕ) → t < traces file →
       record_refusal (body_at file t) ≡ (broken_record unless none (λ k. breaks_at (records_of file) (before (count_at file) t + k)) (count_at file t))
   unfolding record_refusal
-  body-refusal t l =
+  body_refusal_lem t l =
       ap
       (λ (n : ℕ). broken_record unless none (breaks_at (body_at file t)) n)
       (let e = body_length t l in count_of e)
@@ -86,7 +86,7 @@ module _ (file : List ℕ) (ends : length file ≡ start_at file (traces file)) 
   joined_below (suc t) l =
       ap (λ (b : Bool). broken_record unless b) (none_split (breaks_at (records_of file)) (before (count_at file) t) (count_at file t))
       ∙ unless_and _ _
-      ∙ ap₂ (λ (a b : ℕ). a then b) (joined_below t (omega arith)) (sym (body-refusal t l))
+      ∙ ap₂ (λ (a b : ℕ). a then b) (joined_below t (omega arith)) (sym (body_refusal_lem t l))
       ∙ sym (first_suc _ t)
 
   pub joined : entry_at (traces file) ≤ length file → record_refusal (records_of file) ≡ traces_refusal file

@@ -29,15 +29,15 @@ use Rattle.job.proofs.First.{first_at}
 use Rattle.job.proofs.Joined.{body_inside, body_length}
 
 -- a body lies in its file, up to where the next one starts
-body-between
+body_between
     : (file : List ℕ) (t : ℕ) →
     take (start_at file (suc t) - start_at file t) (drop (start_at file t) file) ≡ body_at file t
-body-between file t = rw (start_suc (traces file) (count_at file) t, add-sub_cancel_left)
+body_between file t = rw (start_suc (traces file) (count_at file) t, add-sub_cancel_left)
 
-body-lies
+body_lies
     : (file : List ℕ) (t : ℕ) → file_refusal file ≡ 0 → t < traces file →
     (start_at file t ≤ start_at file (suc t)) × (start_at file (suc t) ≤ length file)
-body-lies file t accepted below =
+body_lies file t accepted below =
     let next = start_suc (traces file) (count_at file) t in
     let lies = body_inside file (file_fine file accepted).ends t below in
     (omega arith, omega arith)
@@ -54,37 +54,37 @@ module _ (file : List ℕ) (trace : ℕ) where
   part_body : open_refusal file trace ≡ 0 → part_of file (start_at file trace) (start_at file (suc trace)) ≡ body_at file trace
   unfolding part_of
   part_body e =
-      rw (le-leb _ _ (body-lies file trace (opened_file e) (opened_trace e)).1) (body-between file trace)
+      rw (le-leb _ _ (body_lies file trace (opened_file e) (opened_trace e)).1) (body_between file trace)
 
-  pub bounds-lie
+  pub bounds_lie
       : file_refusal file ≡ 0 → trace < traces file → (b : Bounds) → b ≡ bounds_at file trace →
       (b.start ≤ b.end) × (b.end ≤ length file)
-  bounds-lie accepted below b e =
-      subst (λ (x : Bounds). (x.start ≤ x.end) × (x.end ≤ length file)) (sym e) (body-lies file trace accepted below)
+  bounds_lie accepted below b e =
+      subst (λ (x : Bounds). (x.start ≤ x.end) × (x.end ≤ length file)) (sym e) (body_lies file trace accepted below)
 
   -- the bytes between a body's bounds are what Open hands back
-  pub bounds-body
+  pub bounds_body
       : file_refusal file ≡ 0 → trace < traces file → {part : List ℕ} → (b : Bounds) → b ≡ bounds_at file trace →
       part ≡ take (b.end - b.start) (drop b.start file) →
       part ≡ open_body file trace
   unfolding open_body
-  bounds-body accepted below b e said =
+  bounds_body accepted below b e said =
       said
       ∙ ap (λ (x : Bounds). take (x.end - x.start) (drop x.start file)) e
-      ∙ body-between file trace
+      ∙ body_between file trace
       ∙ rw (eq-eqb _ _ (open_accepted file trace accepted below)) refl
 
   part_none : part_of file 0 0 ≡ []
   unfolding part_of
   part_none = rw (le-leb 0 (length file) (omega arith))
 
-  by-refusal
+  by_refusal
       : (accepts : Bool) → eqb (open_refusal file trace) 0 ≡ accepts →
       ((locate_answer file trace).refusal ≡ open_refusal file trace)
       × (part_of file (locate_answer file trace).start (locate_answer file trace).end ≡ open_body file trace)
   unfolding locate_answer open_body
-  by-refusal true e = rw e (sym (eqb-true _ _ e), part_body (eqb-true _ _ e))
-  by-refusal false e = rw e (refl, part_none)
+  by_refusal true e = rw e (sym (eqb-true _ _ e), part_body (eqb-true _ _ e))
+  by_refusal false e = rw e (refl, part_none)
 
   pub located
       : (l : Located) → l ≡ locate_answer file trace →
@@ -93,7 +93,7 @@ module _ (file : List ℕ) (trace : ℕ) where
       subst
       (λ (x : Located). (x.refusal ≡ open_refusal file trace) × (part_of file x.start x.end ≡ open_body file trace))
       (sym e)
-      (by-refusal _ refl)
+      (by_refusal _ refl)
 
   -- the body that Open hands back is accepted: neither 10 nor 8 refuses it
   pub opened_accepted : open_refusal file trace ≡ 0 → body_refusal (open_body file trace) ≡ 0
@@ -133,7 +133,7 @@ module _ (whole part : Bor (List ℕ)) (trace : ℕ) where
       open_refusal whole.now trace ≡ 0 →
       StartsAt whole (start_at whole.now trace) part
   placed l e cut z =
-      let lies = body-lies whole.now trace (opened_file whole.now trace z) (opened_trace whole.now trace z) in
+      let lies = body_lies whole.now trace (opened_file whole.now trace z) (opened_trace whole.now trace z) in
       subst
       (λ (x : Located). (x.start ≤ x.end → x.end ≤ length whole.now → StartsAt whole x.start part))
       (e ∙ found z)

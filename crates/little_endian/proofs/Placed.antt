@@ -1,12 +1,12 @@
 -- Writing pieces one after the other: what is before the position is kept, and what is after the piece is as it was.
 use Prim.Native.Nat.{ℕ, ◌+◌, ◌-◌, ◌≤◌}
-use mathlib.Core.List.{List, [], ◌++◌, append_assoc, append-nil}
+use mathlib.Core.List.{List, ◌++◌, append_assoc}
 use mathlib.Core.Path.{◌≡◌, sym, ap, ap₂, ◌∙◌}
 use native.Mathlib.Nat.{add_assoc}
 use native.Mathlib.Omega.{arith}
 use borrow.Rule.Slice.PartMut.{put_mid}
-use lib.ListN.{length, take, drop, length-append, length-drop, drop_of_length-le}
-use lib.Seq.{take_at, take_all, take-length, drop-append-add, drop-drop, length-take-le}
+use lib.ListN.{length, take, drop, length-append}
+use lib.Seq.{take_at, drop-append-add, drop-drop, length-take-le}
 
 -- q written right after p
 pub put_next
@@ -31,24 +31,14 @@ put_both p q o n fits w e =
     ∙ put_next (take n o ++ p) q o (n + length p) (length-append (take n o) p ∙ ap (λ (k : ℕ). k + length p) (length-take-le n o (omega arith)))
     ∙ ap₂ (λ (a : List ℕ) (k : ℕ). a ++ drop k o) (append_assoc (take n o) p q) (add_assoc n (length p) (length q))
 
--- a piece copied into the part from n to the end
-pub put-part
-    : (q o w : List ℕ) (n : ℕ) → n + length q ≤ length o →
-    w ≡ take (length q) q ++ drop (length q) (take (length o - n) (drop n o)) →
-    put_mid n (length o - n) o w ≡ take n o ++ q ++ drop (n + length q) o
-put-part q o w n fits e =
-    ap₂ (λ (a b : List ℕ). take n o ++ (a ++ b)) filled none_left
-    ∙ ap (λ (l : List ℕ). take n o ++ l) (append-nil (q ++ drop (n + length q) o))
+-- a piece copied into the part from n to e
+pub put_part
+    : (q o w : List ℕ) (n e : ℕ) → n + length q ≡ e →
+    w ≡ q →
+    put_mid n (e - n) o w ≡ take n o ++ q ++ drop e o
+put_part q o w n e l same =
+    let k : e - n ≡ length q = omega arith in
+    ap₂ (λ (a : List ℕ) (m : ℕ). take n o ++ (a ++ drop m (drop n o))) same k
+    ∙ ap (λ (b : List ℕ). take n o ++ (q ++ b)) (drop-drop (length q) n o)
     ∙ sym (append_assoc (take n o) q (drop (n + length q) o))
-  where
-    whole : length (drop n o) ≤ length o - n
-    whole = let d = length-drop n o in omega arith
-
-    filled : w ≡ q ++ drop (n + length q) o
-    filled =
-        e
-        ∙ ap₂ (λ (a b : List ℕ). a ++ drop (length q) b) (take-length q) (take_all (length o - n) (drop n o) whole)
-        ∙ ap (λ (l : List ℕ). q ++ l) (drop-drop (length q) n o)
-
-    none_left : drop (length o - n) (drop n o) ≡ []
-    none_left = drop_of_length-le (drop n o) whole
+    ∙ ap (λ (m : ℕ). take n o ++ q ++ drop m o) l

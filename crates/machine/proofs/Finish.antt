@@ -104,16 +104,16 @@ pub all_left_is : (trace : Trace) (t : ℕ) → all_left trace (after trace t) �
 all_left_is trace t = rw (finish_is trace) (all_left_at trace t)
 
 -- the first k instructions have left from the time on at which the last of them leaves,
-first-left
+first_left
     : (trace : Trace) (t k i : ℕ) → i < k → i < length trace → last_leaves (behaviour trace) k ≤ t → after trace t i ≡ record { stage = post; count = 0 }
 unfolding behaviour entry
-first-left trace t k i h l m =
+first_left trace t k i h l m =
     let p = leaves_by (behaviour trace) k i h in
     bridge trace t i l ∙ at_post_level (behaviour trace) t i refl (omega arith)
 
 -- and so nothing changes if a run stops at its finishing time
 pub stays_left : (trace : Trace) (t i : ℕ) → i < length trace → finish trace ≤ t → after trace t i ≡ record { stage = post; count = 0 }
-stays_left trace t i l m = let q = finish_is trace in first-left trace t (length trace) i l l (omega arith)
+stays_left trace t i l m = let q = finish_is trace in first_left trace t (length trace) i l l (omega arith)
 
 pub run_stops : (trace : Trace) (t i : ℕ) → i < length trace → after trace (min t (finish trace)) i ≡ after trace t i
 run_stops trace t i l = pick (tri t (finish trace))

@@ -1,16 +1,16 @@
 -- Where a data hit takes no cycles, the amended rules are document 01's.
-use Prim.Native.Nat.{ℕ, zero, suc, ◌+◌, ◌-◌, ◌≤◌}
+use Prim.Native.Nat.{ℕ, zero, suc, ◌-◌, ◌≤◌}
 use mathlib.Core.Bool.{Bool, true, false, cond}
 use mathlib.Core.List.{[], ◌∷◌}
-use mathlib.Core.Path.{◌≡◌, refl, sym, ap, subst, ◌∙◌}
+use mathlib.Core.Path.{◌≡◌, refl, sym, ap, ◌∙◌}
 use native.Mathlib.Omega.{arith}
-use Rattle.machine.specs.Test.{◌and◌, ◌or◌}
+use Rattle.machine.specs.Test.{◌and◌}
 use Rattle.machine.specs.Instruction.{Instruction, Trace, instruction}
-use Rattle.machine.specs.Rules.{Stage, pre, IF, ID, EX, MEM, ST, WB, post, Place, Places, next, is_load, has_access, misses, entry, moves, cycle, after, all_left}
+use Rattle.machine.specs.Rules.{Stage, pre, IF, ID, EX, MEM, ST, WB, post, Places, next, is_load, has_access, misses, entry, moves, cycle, after, all_left}
 use Rattle.machine.specs.Time.{bound, finish}
-use Rattle.machine.specs.Hits.{with_hit, with_hits}
+use Rattle.machine.specs.Hits.{with_hits}
 use Rattle.machine.specs.Before.{entry_before, cycle_before, after_before, bound_before, finish_before}
-use Rattle.machine.specs.Claims.{AsBefore, ZeroIsBefore}
+use Rattle.machine.specs.Claims.{ZeroIsBefore}
 use Rattle.machine.proofs.Hits.{instruction_hits}
 use Rattle.machine.proofs.Finish.{least_from_lem, finish_is_least, finish_bounded}
 

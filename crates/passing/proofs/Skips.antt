@@ -37,13 +37,13 @@ module _ (trace : Trace) (limit from : ℕ) where
 
   module _ {k : ℕ} {times : CodeTimes.Times} {window : Code.Window} (s : Skips trace limit from k) where
     -- the pass stops at an instruction that has not left
-    pub skip-stays
+    pub skip_stays
         : k < length trace →
         times_of times ≡ times_at trace k →
         window_of window ≡ window_before trace (k + 1) →
         limit < times.post →
         Skipped trace limit from (record { k = k; times = times; window = window })
-    skip-stays inside timed after late =
+    skip_stays inside timed after late =
         record {
           onward = s.onward;
           inside = omega arith;

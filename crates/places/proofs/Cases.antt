@@ -42,7 +42,7 @@ module _ (i : Instruction) (e : Times) (t : ℕ) where
           in_MEM_lem h p q = rw (q, p, le-ltb _ _ fetched, le-ltb _ _ decoded, le-ltb _ _ executed, le-ltb _ _ accessed, lt-ltb _ _ h)
 
           module _ (ended : e.last ≤ t) where
-            pub in-last
+            pub in_last
                 : t < e.post →
                 {stage n r : ℕ} →
                 stage ≡ stage_number (next i.kind MEM) →
@@ -50,7 +50,7 @@ module _ (i : Instruction) (e : Times) (t : ℕ) where
                 r ≡ n - (t - e.last) →
                 at stage r ≡ place
             unfolding place_at next_in
-            in-last h l p q =
+            in_last h l p q =
                 rw (l, next_in_lem i.kind MEM, q, p, le-ltb _ _ fetched, le-ltb _ _ decoded, le-ltb _ _ executed, le-ltb _ _ accessed, le-ltb _ _ ended, lt-ltb _ _ h)
 
             pub in_post : e.post ≤ t → at 7 0 ≡ place

@@ -41,13 +41,13 @@ module _ (body : List ℕ) (lawful : length_refusal body ≡ 0) where
 
 module _ (body : List ℕ) where
   -- what suffices for a body to be accepted; below, what follows from it
-  pub accepted-of
+  pub accepted_of
       : length body ≡ records body * record_size →
       records body ≤ max_instructions →
       ((k : ℕ) → k < records body → breaks_at body k ≡ false) →
       body_refusal body ≡ 0
   unfolding body_refusal length_refusal record_refusal
-  accepted-of whole few lawful =
+  accepted_of whole few lawful =
       then_none _ _ (sym (last_passes _ (rw (eq-eqb (length body % record_size) 0 (omega arith), le-leb (records body) max_instructions few))))
       ∙ sym (last_passes _ (none_below _ _ lawful))
 
@@ -126,12 +126,12 @@ access_latency body accepted b k l e =
 
 module _ (body : List ℕ) (h : ℕ) where
   -- 17 is not given exactly where h is at most 15 and below the data latency of each load and store
-  pub hits-of
+  pub hits_of
       : h ≤ max_hit_cycles →
       ((k : ℕ) → k < records body → has_access (instruction (trace_of body) k).kind ≡ true → h < (instruction (trace_of body) k).data_latency) →
       hit_refusal body h ≡ 0
   unfolding hit_refusal not_above_at not_above instruction_of
-  hits-of few above =
+  hits_of few above =
       sym (last_passes _
       (rw (le-leb h max_hit_cycles few)
       (none_below _ _ (λ k l. fails_at k l (value (eqb (fields_at body k).kind 1 || eqb (fields_at body k).kind 2))))))
@@ -188,7 +188,7 @@ module _ (body : List ℕ) (h : ℕ) where
 
 -- with h = 0, 17 declines no accepted body
 pub zero_hits : (body : List ℕ) → body_refusal body ≡ 0 → Bytes body → hit_refusal body 0 ≡ 0
-zero_hits body accepted b = hits-of body 0 zero-le (access_latency body accepted b)
+zero_hits body accepted b = hits_of body 0 zero-le (access_latency body accepted b)
 
 pub zero_timed : (body : List ℕ) → body_refusal body ≡ 0 → Bytes body → timed_refusal body 0 ≡ 0
 zero_timed body accepted b = timed_of body 0 accepted (zero_hits body accepted b)

@@ -8,10 +8,10 @@ use Rattle.little_endian.specs.Numbers.{byte}
 use Rattle.record.specs.Layout.{record_size, flags_at, fetch_latency_at, data_latency_at, fields_from}
 use Rattle.record.specs.Body.{breaks_at}
 
-pub fields-alike
+pub fields_alike
     : (a b : List ℕ) (p q : ℕ) → ((j : ℕ) → j < record_size → byte a (p + j) ≡ byte b (q + j)) → fields_from a p ≡ fields_from b q
 unfolding fields_from
-fields-alike a b p q h =
+fields_alike a b p q h =
     rw (
       add_assoc p fetch_latency_at 1,
       add_assoc p data_latency_at 1,
@@ -29,9 +29,9 @@ fields-alike a b p q h =
       h 9 (omega arith),
     )
 
-pub breaks-alike
+pub breaks_alike
     : (a b : List ℕ) (k m : ℕ) →
     ((j : ℕ) → j < record_size → byte a (k * record_size + j) ≡ byte b (m * record_size + j)) →
     breaks_at a k ≡ breaks_at b m
 unfolding breaks_at
-breaks-alike a b k m h = rw (fields-alike a b _ _ h, h flags_at (omega arith))
+breaks_alike a b k m h = rw (fields_alike a b _ _ h, h flags_at (omega arith))

@@ -123,10 +123,10 @@ module _ (f : Fields) (flags : ℕ) (lawful : breaks_rules f flags ≡ false) wh
   flag_rules : (eqb f.fetch 3 ≡ false) × (eqb f.access 3 ≡ false) × (ltb 15 flags ≡ false)
   flag_rules = three _ _ _ rules.1
 
-  data-rules
+  data_rules
       : ((eqb f.kind 1 || eqb f.kind 2) && eqb f.data_latency 0 ≡ false)
       × (no_access f && not (eqb f.data_latency 0) ≡ false)
-  data-rules = or_false _ _ rules.6
+  data_rules = or_false _ _ rules.6
 
   pub flags_within : flags ≤ 15
   flags_within = ltb-false 15 flags flag_rules.2
@@ -155,8 +155,8 @@ module _ (f : Fields) (flags : ℕ) (lawful : breaks_rules f flags ≡ false) wh
         no_access =
             λ e.
             let none = others f.kind kind e in
-            (zero_where (no_access f) f.access rules.2 none, zero_where (no_access f) f.data_latency data-rules.1 none);
-        some_access = λ k. above_where (eqb f.kind 1 || eqb f.kind 2) f.data_latency data-rules.0 (one_of f.kind 1 2 k);
+            (zero_where (no_access f) f.access rules.2 none, zero_where (no_access f) f.data_latency data_rules.1 none);
+        some_access = λ k. above_where (eqb f.kind 1 || eqb f.kind 2) f.data_latency data_rules.0 (one_of f.kind 1 2 k);
         no_target = λ k. zero_where (eqb f.kind 2 || eqb f.kind 3) f.target rules.4 (one_of f.kind 2 3 k);
       }
 

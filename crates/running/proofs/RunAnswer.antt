@@ -77,10 +77,10 @@ module _ (trace : Trace) (limit : ℕ) {r : Fetched} {seats : List ℕ} (at : St
       λ x. record { refusal = 0; state = placed x; cycles = counted x; left = left x }
 
 module _ (body : List ℕ) (limit h : ℕ) {refusal : ℕ} (e : refusal ≡ settled_refusal body h) where
-  pub run-refused
+  pub run_refused
       : {state : State} → (refusal ≡ 0 → ⊥) → state ≡ start → record { refusal = refusal; state = state; cycles = 0; left = false } ≡ run_answer body limit h
   unfolding run_answer
-  run-refused refused p = rw (← e, p, ne_eqb _ 0 refused)
+  run_refused refused p = rw (← e, p, ne_eqb _ 0 refused)
 
   -- the trace of a body that Run accepts is its own settling
   pub run_accepted : {r : Ran} (to : Flag) → Bytes body → refusal ≡ 0 → r ≡ ran_for (settle to (trace_with body h)) limit → r ≡ run_answer body limit h

@@ -41,7 +41,7 @@ slid f w e load holds next_fetch load_done store store_done load_target =
     (next_fetch, load_done, store_done, load_target, sum_joins e.EX f.execution 1, load, holds, store)
 
 -- times with six equal fields are equal
-pub six-times
+pub six_times
     : {e : Theory.Times} {IF ID EX MEM last post : ℕ} →
     IF ≡ e.IF →
     ID ≡ e.ID →
@@ -50,4 +50,4 @@ pub six-times
     last ≡ e.last →
     post ≡ e.post →
     ◌≡◌ {A = Theory.Times} (record { IF = IF; ID = ID; EX = EX; MEM = MEM; last = last; post = post }) e
-six-times a b c d e f = λ k. record { IF = a k; ID = b k; EX = c k; MEM = d k; last = e k; post = f k }
+six_times a b c d e f = λ k. record { IF = a k; ID = b k; EX = c k; MEM = d k; last = e k; post = f k }

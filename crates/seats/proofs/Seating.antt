@@ -114,13 +114,13 @@ module _ (k : ℕ) (l : List ℕ) (long : length l ≡ 13) where
         let left = in_post i e t fetched (omega (arith, r.ID)) (omega (arith, r.EX)) (omega (arith, r.MEM)) (omega (arith, r.last)) h in
         record { long = long; state = rw (add-one k) (gone ∙ ap (λ (p : Code.Place). state_with p k (state_seated l k)) left) }
 
-    pub seat-slot
+    pub seat_slot
         : e.IF ≤ t →
         t < e.post →
         {p : Code.Place} →
         p ≡ place →
         Seated (set (set l p.stage (k + 1)) (6 + p.stage) p.count) (k + 1) (state_with place k (state_seated l k))
-    seat-slot fetched h q =
+    seat_slot fetched h q =
         record {
           long = simp length-set long;
           state = rw (q, add-one k) (grown (place_at i e t).stage (place_at i e t).count (within i e t fetched h));

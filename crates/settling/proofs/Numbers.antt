@@ -20,7 +20,7 @@ settled_number (suc (suc n)) to =
     rw (lt-ltb 1 (suc (suc n)) (omega arith), past_flags n 0 (omega arith), past_flags n 1 (omega arith))
 
 -- the record with settled flags
-pub settled-fields
+pub settled_fields
     : (f : Fields) (to : ℕ) {fetch access : ℕ} →
     fetch ≡ cond (ltb 1 f.fetch) to f.fetch →
     access ≡ cond (ltb 1 f.access) to f.access →
@@ -38,4 +38,4 @@ pub settled-fields
     })
     ≡ settle_instruction (flag_of to) (instruction_of f)
 unfolding instruction_of settle_instruction
-settled-fields f to p q = rw (p, q, settled_number f.fetch to, settled_number f.access to)
+settled_fields f to p q = rw (p, q, settled_number f.fetch to, settled_number f.access to)

@@ -16,13 +16,13 @@ use Rattle.record.specs.Rules.{instruction_of}
 use Rattle.starting.specs.Inner.{pending_slot}
 use Rattle.decode.proofs.Joined.{either_of, and_under}
 
-pub is-pending
+pub is_pending
     : (trace : Trace) (k : Stage) (held : Slot) (f : Fields) {r : Bool} →
     (held.filled ≡ true → instruction_of f ≡ instruction trace held.index) →
     r ≡ (held.filled and pending (instruction_of f).kind (record { stage = k; count = held.count })) →
     r ≡ pending_slot trace k held
 unfolding instruction_of
-is-pending trace k held f e q =
+is_pending trace k held f e q =
     q ∙ and_under held.filled λ t. ap (λ (j : Instruction). pending j.kind (record { stage = k; count = held.count })) (e t)
 
 -- what a slot holds keeps another back if it is pending, older and waited for

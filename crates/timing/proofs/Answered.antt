@@ -39,45 +39,45 @@ module _ (body : List ℕ) (h : ℕ) where
   unfolding finish_answer
   finish_given z e = rw e (sym (accepted (settled_refusal body h) _ _ z))
 
-  pub best-worst-refused
+  pub best_worst_refused
       : {r : ℕ} → r ≡ timed_refusal body h → (r ≡ 0 → ⊥) → ◌≡◌ {A = BestAndWorst} (record { refusal = r; best = 0; worst = 0 }) (best_worst_answer body h)
   unfolding best_worst_answer
-  best-worst-refused e some = rw e (sym (refused (timed_refusal body h) _ _ (λ z. some (e ∙ z))))
+  best_worst_refused e some = rw e (sym (refused (timed_refusal body h) _ _ (λ z. some (e ∙ z))))
 
-  pub best-worst-given
+  pub best_worst_given
       : timed_refusal body h ≡ 0 →
       {b w : ℕ} →
       b ≡ finish (settle (flag_of 0) (trace_with body h)) →
       w ≡ finish (settle (flag_of 1) (trace_with body h)) →
       ◌≡◌ {A = BestAndWorst} (record { refusal = 0; best = b; worst = w }) (best_worst_answer body h)
   unfolding best_worst_answer best worst flag_of
-  best-worst-given z p q = rw (p, q) (sym (accepted (timed_refusal body h) _ _ z))
+  best_worst_given z p q = rw (p, q) (sym (accepted (timed_refusal body h) _ _ z))
 
   module _ (deadline : ℕ) where
-    pub margin-refused
+    pub margin_refused
         : {r : ℕ} → r ≡ timed_refusal body h → (r ≡ 0 → ⊥) → ◌≡◌ {A = DeadlineMargin} (record { refusal = r; margin = pos 0 }) (margin_answer body deadline h)
     unfolding margin_answer
-    margin-refused e some = rw e (sym (refused (timed_refusal body h) _ _ (λ z. some (e ∙ z))))
+    margin_refused e some = rw e (sym (refused (timed_refusal body h) _ _ (λ z. some (e ∙ z))))
 
-    pub margin-given
+    pub margin_given
         : timed_refusal body h ≡ 0 →
         {w : ℕ} {m : ℤ} →
         w ≡ finish (settle (flag_of 1) (trace_with body h)) →
         m ≡ pos deadline -ℤ pos w →
         ◌≡◌ {A = DeadlineMargin} (record { refusal = 0; margin = m }) (margin_answer body deadline h)
     unfolding margin_answer worst flag_of
-    margin-given z p q = rw (q, p) (sym (accepted (timed_refusal body h) _ _ z))
+    margin_given z p q = rw (q, p) (sym (accepted (timed_refusal body h) _ _ z))
 
 module _ (first second : List ℕ) (h : ℕ) where
-  pub alike-refused
+  pub alike_refused
       : {r : ℕ} →
       r ≡ (settled_refusal first h then settled_refusal second h) →
       (r ≡ 0 → ⊥) →
       ◌≡◌ {A = Likeness} (record { refusal = r; alike = false }) (alike_answer first second h)
   unfolding alike_answer alike_refusal
-  alike-refused e some = rw e (sym (refused (settled_refusal first h then settled_refusal second h) _ _ (λ z. some (e ∙ z))))
+  alike_refused e some = rw e (sym (refused (settled_refusal first h then settled_refusal second h) _ _ (λ z. some (e ∙ z))))
 
-  pub alike-given
+  pub alike_given
       : settled_refusal first h ≡ 0 →
       settled_refusal second h ≡ 0 →
       {a b : ℕ} →
@@ -85,4 +85,4 @@ module _ (first second : List ℕ) (h : ℕ) where
       b ≡ finish (trace_with second h) →
       ◌≡◌ {A = Likeness} (record { refusal = 0; alike = eqb a b }) (alike_answer first second h)
   unfolding alike_answer alike_refusal
-  alike-given z y p q = rw (p, q) (sym (accepted (settled_refusal first h then settled_refusal second h) _ _ (then_none _ _ z ∙ y)))
+  alike_given z y p q = rw (p, q) (sym (accepted (settled_refusal first h then settled_refusal second h) _ _ (then_none _ _ z ∙ y)))

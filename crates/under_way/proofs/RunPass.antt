@@ -101,12 +101,12 @@ module _ (trace : Trace) (limit : ℕ) where
 
     module _ {seats : List ℕ} (here : Passed trace limit r.k seats) where
       -- the instruction that is reached is fetched by the limit, and is seated
-      pub may-seat
+      pub may_seat
           : r.k < length trace →
           r.k + 1 < 2 ^ 32 →
           r.times.IF ≤ limit →
           (length seats ≡ 13) × (r.times.IF ≤ limit) × (limit < r.times.post) × (r.k + 1 < 2 ^ 32)
-      may-seat inside fits fetched =
+      may_seat inside fits fetched =
           (here.long, fetched, subst (λ (e : Times). limit < e.post) (sym (s.stays inside).times) (s.stays inside).late, fits)
 
       pub passes

@@ -13,7 +13,7 @@ use Rattle.job.specs.Open.{open_body}
 use Rattle.timed_file.specs.Refusal.{timed_file_refusal}
 use Rattle.timed_file.proofs.Hits.{body_timed}
 use Rattle.timing.specs.declared.calls.BestAndWorst.{BestAndWorst}
-use Rattle.timing.proofs.Answered.{best-worst-given}
+use Rattle.timing.proofs.Answered.{best_worst_given}
 use Rattle.whole_job.specs.Answers.{timed_alone}
 
 -- the first t places are filled, then place t too
@@ -32,4 +32,4 @@ module _ (file : List ℕ) (h : ℕ) (passes : timed_file_refusal file h ≡ 0) 
   passed_alone e p =
       ap
       (λ (answer : BestAndWorst). answer.worst)
-      (best-worst-given (open_body file t) h (body_timed file h passes t inside) refl (p ∙ ap (λ (b : List ℕ). finish (settle (flag_of 1) (trace_with b h))) e))
+      (best_worst_given (open_body file t) h (body_timed file h passes t inside) refl (p ∙ ap (λ (b : List ℕ). finish (settle (flag_of 1) (trace_with b h))) e))

@@ -18,12 +18,12 @@ unfolding entry_bytes
 length_entry counts t = refl
 
 -- byte j of entry t, in a table of n entries
-byte-table
+byte_table
     : (counts : List ℕ) (n t j : ℕ) → t < n → j < entry_size → byte (table_of counts n) (entry_size * t + j) ≡ byte (entry_bytes counts t) j
-byte-table counts zero t j l lj = absurd (not-suc-le-zero l)
-byte-table counts (suc n) t j l lj =
+byte_table counts zero t j l lj = absurd (not-suc-le-zero l)
+byte_table counts (suc n) t j l lj =
     ap (λ (b : List ℕ). byte b (entry_size * t + j)) (table_suc counts n)
-    ∙ ⊎_elim at_end (λ lt. before_end lt ∙ byte-table counts n t j lt lj) (eq-or-lt_of_le (le_of_suc-le-suc l))
+    ∙ ⊎_elim at_end (λ lt. before_end lt ∙ byte_table counts n t j lt lj) (eq-or-lt_of_le (le_of_suc-le-suc l))
   where
     before_end : t < n → byte (table_of counts n ++ entry_bytes counts n) (entry_size * t + j) ≡ byte (table_of counts n) (entry_size * t + j)
     before_end lt =
@@ -45,10 +45,10 @@ module _ (counts records : List ℕ) where
       let b = length_table counts (length counts) in
       omega arith
 
-  pub byte-entry
+  pub byte_entry
       : (t j : ℕ) → t < length counts → j < entry_size → byte (file_of counts records) (entry_at t + j) ≡ byte (entry_bytes counts t) j
   unfolding file_of
-  byte-entry t j l lj =
+  byte_entry t j l lj =
       get_or-append
       (half_bytes (length counts) ++ table_of counts (length counts))
       records
@@ -57,7 +57,7 @@ module _ (counts records : List ℕ) where
       (let h = head_length in omega arith)
       ∙ ap (byte (half_bytes (length counts) ++ table_of counts (length counts))) (add_assoc header_size (entry_size * t) j)
       ∙ get_or-append-add (half_bytes (length counts)) (table_of counts (length counts)) (entry_size * t + j) 0
-      ∙ byte-table counts (length counts) t j l lj
+      ∙ byte_table counts (length counts) t j l lj
 
   pub byte_record : (k : ℕ) → byte (file_of counts records) (entry_at (length counts) + k) ≡ byte records k
   unfolding file_of
@@ -74,19 +74,19 @@ module _ (counts records : List ℕ) where
   file_count t l =
       ap₂
       (λ (a b : ℕ). a + 256 * b)
-      (byte-entry t count_in_entry l (omega arith))
-      (ap (byte (file_of counts records)) (add_assoc (entry_at t) count_in_entry 1) ∙ byte-entry t 5 l (omega arith))
+      (byte_entry t count_in_entry l (omega arith))
+      (ap (byte (file_of counts records)) (add_assoc (entry_at t) count_in_entry 1) ∙ byte_entry t 5 l (omega arith))
       ∙ half_of_bytes (count counts t)
 
-  pub file-offset
+  pub file_offset
       : (t : ℕ) → t < length counts → offset_at (file_of counts records) t ≡ body_start (length counts) (count counts) t
   unfolding entry_bytes
-  file-offset t l =
+  file_offset t l =
       let start = body_start (length counts) (count counts) t in
-      let b₀ = first_byte ∙ byte-entry t 0 l (omega arith) in
-      let b₁ = byte-entry t 1 l (omega arith) in
-      let b₂ = byte-entry t 2 l (omega arith) in
-      let b₃ = byte-entry t 3 l (omega arith) in
+      let b₀ = first_byte ∙ byte_entry t 0 l (omega arith) in
+      let b₁ = byte_entry t 1 l (omega arith) in
+      let b₂ = byte_entry t 2 l (omega arith) in
+      let b₃ = byte_entry t 3 l (omega arith) in
       word_of _ _ _ _ start b₀ b₁ b₂ b₃
     where
       first_byte : byte (file_of counts records) (entry_at t) ≡ byte (file_of counts records) (entry_at t + 0)

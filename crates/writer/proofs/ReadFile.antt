@@ -23,7 +23,7 @@ use Rattle.job.proofs.Starts.{start_before, before_same}
 use Rattle.job.proofs.Joined.{joined}
 use Rattle.job.proofs.Accepted.{FileFine}
 use Rattle.writer.proofs.WriteAnswer.{length_file}
-use Rattle.writer.proofs.FileBytes.{byte-entry, byte_record}
+use Rattle.writer.proofs.FileBytes.{byte_entry, byte_record}
 
 -- the four bytes of the number that four bytes stand for are those four
 word_Bytes
@@ -94,7 +94,7 @@ module _ (file : List ℕ) (bytes : Bytes file) (fine : FileFine file) where
 
   again_entry : (t j : ℕ) → t < traces file → j < entry_size → byte (file_of (counts_of file) (records_of file)) (entry_at t + j) ≡ byte file (entry_at t + j)
   again_entry t j l lj =
-      byte-entry (counts_of file) (records_of file) t j (subst (λ (n : ℕ). t < n) (sym counts_length) l) lj
+      byte_entry (counts_of file) (records_of file) t j (subst (λ (n : ℕ). t < n) (sym counts_length) l) lj
       ∙ ap (λ (b : List ℕ). byte b j) (entry_again t l)
       ∙ get_or_firsts (λ j. byte file (entry_at t + j)) entry_size j 0 lj
 

@@ -60,11 +60,11 @@ module _ (counts records : List ℕ) where
       omega arith
 
   module _ (out : List ℕ) where
-    pub write-refused
+    pub write_refused
         : (r : ℕ) → r ≡ write_refusal counts records (length out) → (r ≡ 0 → ⊥) →
         (◌≡◌ {A = Written} (record { refusal = r; length = 0 }) (write_answer counts records (length out))) × (out ≡ write_output counts records out)
     unfolding write_answer write_output
-    write-refused r e h = (rw (← e, ne_eqb _ _ h), rw (← e, ne_eqb _ _ h))
+    write_refused r e h = (rw (← e, ne_eqb _ _ h), rw (← e, ne_eqb _ _ h))
 
     -- header, table and records are written one after the other
     pub write_done

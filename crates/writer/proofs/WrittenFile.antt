@@ -20,7 +20,7 @@ use Rattle.job.proofs.Starts.{start_before, before_same}
 use Rattle.job.proofs.Joined.{joined}
 use Rattle.job.proofs.Accepted.{open_accepted}
 use Rattle.writer.proofs.WriteAnswer.{WriteFine, last_end, length_file}
-use Rattle.writer.proofs.FileBytes.{file_traces, file_count, file-offset, file_records}
+use Rattle.writer.proofs.FileBytes.{file_traces, file_count, file_offset, file_records}
 
 module _ (counts records : List ℕ) (room : ℕ) (fine : WriteFine counts records room) where
   -- as many instructions come before trace t in the file as the counts say
@@ -69,7 +69,7 @@ module _ (counts records : List ℕ) (room : ℕ) (fine : WriteFine counts recor
       (file_of counts records)
       t
       (let c = file_count counts records t lt in let s = fine.small t lt in omega arith)
-      (file-offset counts records t lt ∙ sym (file_start t (omega arith))))
+      (file_offset counts records t lt ∙ sym (file_start t (omega arith))))
 
   records_pass : 0 ≡ traces_refusal (file_of counts records)
   unfolding file_length

@@ -36,7 +36,7 @@ entries_none counts o l =
     ∙ take-append-drop header_size o)
 
 -- one entry more
-pub entries-more
+pub entries_more
     : (counts o out w : List ℕ) (t at offset n : ℕ) →
     header_size ≤ length o →
     at ≡ entry_at t →
@@ -46,7 +46,7 @@ pub entries-more
     w ≡ take at out ++ (word_bytes offset ++ half_bytes n) ++ drop (at + entry_size) out →
     w ≡ take header_size o ++ table_of counts (t + 1) ++ drop (at + entry_size) o
 unfolding entry_bytes
-entries-more counts o out w t at offset n l eat eoffset en eout ew =
+entries_more counts o out w t at offset n l eat eoffset en eout ew =
     ew
     ∙ ap₂ (λ (a b : ℕ). take at out ++ (word_bytes a ++ half_bytes b) ++ drop (at + entry_size) out) eoffset en
     ∙ ap (λ (l : List ℕ). take at l ++ entry_bytes counts t ++ drop (at + entry_size) l) eout

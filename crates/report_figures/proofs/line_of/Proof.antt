@@ -7,7 +7,7 @@ use Rattle.record.specs.Body.{trace_of}
 use Rattle.machine.proofs.Hits.{length_hits}
 use Rattle.report_figures.proofs.Flags.{unknown_hits}
 use Rattle.record.proofs.Instructions.{length_trace_of}
-use Rattle.timing.proofs.Answered.{best-worst-given}
+use Rattle.timing.proofs.Answered.{best_worst_given}
 use Rattle.timing.specs.declared.calls.BestAndWorst.{BestAndWorst}
 use Rattle.report_figures.specs.Figures.{line_of}
 use borrow.Author.Rules.{rules}
@@ -29,7 +29,7 @@ returns c =
     let start = c.before.before.before.before in
     let body = start.args.body.now in
     let h = start.args.hit-cycles in
-    let given = best-worst-given body h start.requires refl refl in
+    let given = best_worst_given body h start.requires refl refl in
     let times = c.before.before.best-worst.ensures ∙ sym given in
     rw (
       ap (λ (t : BestAndWorst). t.best) times,

@@ -191,5 +191,5 @@ make-view-spec 𝓤 𝓛 𝓜 𝓡 =
     entered 𝓤 𝓛.H (triple_of 𝓛 making.signature (making.spec 𝓛 𝓜.mem 𝓡.run))
     (tables 𝓤 𝓛.H 𝓜 𝓡 code.env).C (tables 𝓤 𝓛.H 𝓜 𝓡 code.env).Λ #views·make-view code.function (code.unfolded 𝓤 𝓛.H 𝓜 𝓡)
     (make-view-meets 𝓛 𝓜.mem 𝓡.run (tables_of 𝓤 𝓛.H 𝓜 (tables 𝓤 𝓛.H 𝓜 𝓡 code.env))
-    (cited 𝓤 𝓛.H (Refusal 𝓛 𝓜.mem 𝓡.run) 𝓜 𝓡 code.env #acceptance·body-refusal refusal-def.routine code.calls-acceptance::body-refusal (refusal-thm.met 𝓤 𝓛 𝓜 𝓡))
+    (cited 𝓤 𝓛.H (Refusal 𝓛 𝓜.mem 𝓡.run) 𝓜 𝓡 code.env #acceptance·body-refusal refusal-def.routine code.calls-acceptance::body_refusal_lem (refusal-thm.met 𝓤 𝓛 𝓜 𝓡))
     (cited 𝓤 𝓛.H (Keeps 𝓛 𝓜.mem 𝓡.run) 𝓜 𝓡 code.env #views·kept kept-def.routine code.calls-views::kept (kept-thm.met 𝓤 𝓛 𝓜 𝓡)))

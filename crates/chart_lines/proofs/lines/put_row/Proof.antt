@@ -2,7 +2,7 @@
 use native.Mathlib.Omega.{arith}
 use borrow.Author.Rules.{rules}
 use Rattle.text.proofs.Pieces.{wrote_then, as_text, decimal_short}
-use Rattle.chart_lines.proofs.Lengths.{slots_short, row-joined}
+use Rattle.chart_lines.proofs.Lengths.{slots_short, row_joined}
 use Rattle.chart_lines.proofs.lines.put_row.Statement.{statement}
 use Rattle.chart_lines.proofs.lines.put_row.Tie as tie
 
@@ -46,7 +46,7 @@ returns c =
     let one = two.before.before.before.before in
     let number = one.before.before.before.before in
     as_text _ _
-    (row-joined _ _)
+    (row_joined _ _)
     (wrote_then _ _ _ _
     (wrote_then _ _ _ _ (wrote_then _ _ _ _ number.put-decimal.ensures one.put-slots.ensures) two.put-slots2.ensures)
     end.put_byte.ensures)

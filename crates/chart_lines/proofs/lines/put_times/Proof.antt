@@ -3,7 +3,7 @@ use mathlib.Core.List.{[], ◌∷◌}
 use native.Mathlib.Omega.{arith}
 use borrow.Author.Rules.{rules}
 use Rattle.text.proofs.Pieces.{wrote_then, as_text}
-use Rattle.chart_lines.proofs.Lengths.{labelled_short, times-joined}
+use Rattle.chart_lines.proofs.Lengths.{labelled_short, times_joined}
 use Rattle.chart_lines.proofs.lines.put_times.Statement.{statement}
 use Rattle.chart_lines.proofs.lines.put_times.Tie as tie
 
@@ -42,7 +42,7 @@ returns c =
     let earliest = end.before.before.before.before in
     let latest = earliest.before.before.before.before.before in
     as_text _ _
-    (times-joined _ _)
+    (times_joined _ _)
     (wrote_then _ _ _ _
     (wrote_then _ _ _ _ latest.put-labelled.ensures earliest.put-labelled2.ensures)
     end.put_byte.ensures)

@@ -16,7 +16,7 @@ use Rattle.moving.specs.declared.moving.Bits.{Bits}
 use Rattle.moving.specs.Inner.{bit_of, bits_of, kind_in}
 use Rattle.starting.specs.Inner.{starts, opens_after}
 use Rattle.cycle.proofs.Read.{read_kind}
-use Rattle.cycle.proofs.Starts.{leaving-is, arriving_is, standstill_is, none_set}
+use Rattle.cycle.proofs.Starts.{leaving_is, arriving_is, standstill_is, none_set}
 use Rattle.cycle.proofs.cycling.cycle.Statement.{statement}
 use Rattle.cycle.proofs.cycling.cycle.Tie as tie
 
@@ -76,7 +76,7 @@ returns-2 c =
     λ k f. c6.kinds-read.ensures k ∙ read_kind h k f in
     let moving : c.before.before.leaving.result ≡ bits_of (leaves trace s) =
     c.before.before.leaving.ensures
-    ∙ leaving-is trace s kinds
+    ∙ leaving_is trace s kinds
     (c3.before.before.mask.ensures ∙ ap (λ (b : Bits). mask_of (bit_of b)) (c9.starts.ensures trace h e))
     (c3.mask2.ensures ∙ ap (λ (b : Bits). mask_of (bit_of b)) (c3.before.full.ensures trace e)) in
     c.slots-after.ensures trace h moving (c.before.arriving.ensures ∙ arriving_is trace s kinds moving)

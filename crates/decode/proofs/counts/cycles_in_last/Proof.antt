@@ -1,6 +1,6 @@
 -- `cycles_in_last` meets its contract: a store's latency is at least 1.
 use borrow.Author.Rules.{rules}
-use Rattle.decode.proofs.Entries.{last-cycles}
+use Rattle.decode.proofs.Entries.{last_cycles}
 use Rattle.decode.proofs.counts.cycles_in_last.Statement.{statement}
 use Rattle.decode.proofs.counts.cycles_in_last.Tie as tie
 
@@ -22,7 +22,7 @@ choose-requires-2 c κs = search rules
 returns : tie.Need-returns
 returns c =
     let c3 = c.before.before.before in
-    last-cycles _ _ c3.before.requires.0 c3.is_IsStore.ensures c.before.before.access-misses.ensures c.before.choose.ensures c.choose2.ensures
+    last_cycles _ _ c3.before.requires.0 c3.is_IsStore.ensures c.before.before.access-misses.ensures c.before.choose.ensures c.choose2.ensures
 
 pub cycles-in-last-spec : {M : Type 1} → statement M
 cycles-in-last-spec =

@@ -4,7 +4,7 @@ use mathlib.Core.Path.{sym, ap}
 use Rattle.machine.proofs.Hazards.{waits_for, asks_for}
 use Rattle.record.specs.Rules.{instruction_of}
 use Rattle.decode.proofs.Joined.{both_of, either_of}
-use Rattle.decode.proofs.Elsewhere.{waits-elsewhere}
+use Rattle.decode.proofs.Elsewhere.{waits_elsewhere}
 use Rattle.decode.proofs.waits.waits_for.Statement.{statement}
 use Rattle.decode.proofs.waits.waits_for.Tie as tie
 
@@ -39,7 +39,7 @@ unfolding asks_for
 returns-3 c = rw c.before.before.if3.true (both_of c.before.is_IsStore.ensures c.misses-data.ensures)
 
 returns-4 : tie.Need-returns-4
-returns-4 c = sym (waits-elsewhere _ c.before.before.if1.false c.before.if2.false c.if3.false _ _)
+returns-4 c = sym (waits_elsewhere _ c.before.before.if1.false c.before.if2.false c.if3.false _ _)
 
 pub waits-for-spec : {M : Type 1} → statement M
 waits-for-spec =

@@ -1,5 +1,5 @@
 -- `enter_ex` meets its contract: its calls together are the definition.
-use Rattle.entering.proofs.Steps.{EX-step}
+use Rattle.entering.proofs.Steps.{EX_step}
 use borrow.Author.Rules.{rules}
 use Rattle.entering.proofs.stages.enter_ex.Statement.{statement}
 use Rattle.entering.proofs.stages.enter_ex.Tie as tie
@@ -17,7 +17,7 @@ later-requires : tie.Need-later-requires
 later-requires c κs = search rules
 
 returns : tie.Need-returns
-returns c = EX-step _ _ _ c.before.before.reads-in-id.ensures c.before.choose.ensures c.later.ensures
+returns c = EX_step _ _ _ c.before.before.reads-in-id.ensures c.before.choose.ensures c.later.ensures
 
 pub enter-ex-spec : {M : Type 1} → statement M
 enter-ex-spec =

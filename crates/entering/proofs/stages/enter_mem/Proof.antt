@@ -2,7 +2,7 @@
 use Rattle.machine.specs.Rules.{entry}
 use Rattle.record.specs.Rules.{instruction_of}
 use native.Mathlib.Omega.{arith}
-use Rattle.entering.proofs.Steps.{MEM-step}
+use Rattle.entering.proofs.Steps.{MEM_step}
 use borrow.Author.Rules.{rules}
 use mathlib.Core.Path.{◌∙◌}
 use Rattle.decode.proofs.Entries.{misses_alone}
@@ -30,7 +30,7 @@ later-requires-2 : tie.Need-later-requires-2
 later-requires-2 c κs = search rules
 
 returns : tie.Need-returns
-returns c = MEM-step _ _ _ (c.before.before.before.before.access-misses.ensures ∙ misses_alone _ c.before.before.before.before.before.requires.1) c.before.before.before.choose.ensures c.before.later.ensures c.later2.ensures
+returns c = MEM_step _ _ _ (c.before.before.before.before.access-misses.ensures ∙ misses_alone _ c.before.before.before.before.before.requires.1) c.before.before.before.choose.ensures c.before.later.ensures c.later2.ensures
 
 pub enter-mem-spec : {M : Type 1} → statement M
 enter-mem-spec =

@@ -1,5 +1,5 @@
 -- `bounds_of` meets its contract: an accepted file has the body where its entry says.
-use Rattle.job.proofs.Accepted.{file_fine, body_fits, bounds-read}
+use Rattle.job.proofs.Accepted.{file_fine, body_fits, bounds_read}
 use native.Mathlib.Omega.{arith}
 use borrow.Author.Rules.{rules}
 use Rattle.job.proofs.table.bounds_of.Statement.{statement}
@@ -38,7 +38,7 @@ cast-t10 c = search rules
 returns : tie.Need-returns
 returns c =
     let pre = c.before.before.before.requires in
-    bounds-read _ pre.0 _ pre.1 c.before.word.ensures.0 c.half.ensures.0
+    bounds_read _ pre.0 _ pre.1 c.before.word.ensures.0 c.half.ensures.0
 
 pub bounds-of-spec : {M : Type 1} → statement M
 bounds-of-spec =

@@ -1,6 +1,6 @@
 -- `file_refusal` meets its contract: the refusals in their order, with one check of the records of all traces.
 use Rattle.job.specs.Layout.{start_at}
-use Rattle.job.proofs.Accepted.{TableFine, table_fine, records-checked}
+use Rattle.job.proofs.Accepted.{TableFine, table_fine, records_checked}
 use Rattle.job.specs.Open.{file_refusal}
 use Rattle.record.proofs.Refusals.{stop, go_on}
 use Rattle.record.specs.Refusal.{◌then◌, ◌unless◌}
@@ -91,7 +91,7 @@ returns-4 c =
     let c₁₁ = c₉.before.before in
     let fine : TableFine c₁₁.args.file.now = table_fine _ (sym c₉.table-refusal.ensures ∙ c₈.if1.false) in
     go_on c₉.table-refusal.ensures c₈.if1.false
-    (go_on c₆.entries-of.ensures.0 c₄.if2.false (records-checked _ c₇.half.result _ fine c₇.half.ensures.0
+    (go_on c₆.entries-of.ensures.0 c₄.if2.false (records_checked _ c₇.half.result _ fine c₇.half.ensures.0
     (c.before.before.if3.false ∙ c₆.entries-of.ensures.1 c₄.if2.false ∙ ap (start_at c₁₁.args.file.now) c₇.half.ensures.0)
     c.record-refusal.ensures))
 

@@ -1,5 +1,5 @@
 -- `locate` meets its contract: a file that is refused, a trace number that is too large, or a body that is there.
-use Rattle.job.proofs.Accepted.{locate_refused, locate-found, open_out, open_declined}
+use Rattle.job.proofs.Accepted.{locate_refused, locate_found, open_out, open_declined}
 use native.Mathlib.Omega.{arith}
 use mathlib.Core.Path.{sym, ◌∙◌}
 use Rattle.job.proofs.table.locate.Statement.{statement}
@@ -31,7 +31,7 @@ returns-3 : tie.Need-returns-3
 returns-3 c =
     let accepted = sym c.before.before.before.before.file-refusal.ensures ∙ c.before.before.before.if1.false in
     let below = rw c.before.before.half.ensures.0 at c.before.if2.false in
-    sym (locate-found _ _ c.bounds_of.result accepted below c.bounds_of.ensures)
+    sym (locate_found _ _ c.bounds_of.result accepted below c.bounds_of.ensures)
 
 pub locate-spec : {M : Type 1} → statement M
 locate-spec =

@@ -11,7 +11,7 @@ use Rattle.record.specs.Body.{trace_with}
 use Rattle.record.proofs.Accepted.{few_records, timed_accepted}
 use Rattle.entering.specs.Inner.{window_of}
 use Rattle.schedule.proofs.Accepted.{length_settled}
-use Rattle.passing.proofs.Skips.{Skips, skips_none, skips_one, skip-stays, skip_ends}
+use Rattle.passing.proofs.Skips.{Skips, skips_none, skips_one, skip_stays, skip_ends}
 use Rattle.passing.proofs.pass.skip_left.Statement.{statement}
 use Rattle.passing.proofs.pass.skip_left.Tie as tie
 
@@ -41,7 +41,7 @@ returns c =
     let counted = test.before.before in
     let a = counted.before.before.args in
     let inside : test.before.loop.k < length (settle (flag_of a.to) (trace_with a.body.now a.hit-cycles)) = omega (arith, length_settled a.body.now a.hit-cycles (flag_of a.to), counted.count.ensures, test.loop-test.true) in
-    skip-stays _ _ _ test.before.loop.invariant.2 inside timed.0 timed.1 c.if1.true
+    skip_stays _ _ _ test.before.loop.invariant.2 inside timed.0 timed.1 c.if1.true
 
 add-k : tie.Need-overflow-add-k invariant-loop decreases-loop
 add-k c =

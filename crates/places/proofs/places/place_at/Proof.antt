@@ -2,7 +2,7 @@
 use Rattle.machine.specs.Rules.{entry}
 use Rattle.machine.specs.Hits.{with_hit}
 use Rattle.record.specs.Rules.{instruction_of}
-use Rattle.places.proofs.Cases.{in_pre_lem, in_IF_lem, in_ID_lem, in_EX_lem, in_MEM_lem, in-last, in_post}
+use Rattle.places.proofs.Cases.{in_pre_lem, in_IF_lem, in_ID_lem, in_EX_lem, in_MEM_lem, in_last, in_post}
 use borrow.Author.Rules.{rules}
 use Rattle.places.proofs.places.place_at.Statement.{statement}
 use Rattle.places.proofs.places.place_at.Tie as tie
@@ -49,7 +49,7 @@ less-requires-4 : tie.Need-less-requires-4
 less-requires-4 c κs = search rules
 
 returns-6 : tie.Need-returns-6
-returns-6 c = in-last (with_hit _ (instruction_of _)) _ _ c.before.before.before.before.before.before.before.before.before.before.before.before.before.before.if1.false c.before.before.before.before.before.before.before.before.before.before.before.before.if2.false c.before.before.before.before.before.before.before.before.before.before.if3.false c.before.before.before.before.before.before.before.before.if4.false c.before.before.before.before.before.before.if5.false c.before.before.before.before.if6.true c.before.before.before.last-stage.ensures c.before.before.count-in-last.ensures c.less4.ensures
+returns-6 c = in_last (with_hit _ (instruction_of _)) _ _ c.before.before.before.before.before.before.before.before.before.before.before.before.before.before.if1.false c.before.before.before.before.before.before.before.before.before.before.before.before.if2.false c.before.before.before.before.before.before.before.before.before.before.if3.false c.before.before.before.before.before.before.before.before.if4.false c.before.before.before.before.before.before.if5.false c.before.before.before.before.if6.true c.before.before.before.last-stage.ensures c.before.before.count-in-last.ensures c.less4.ensures
 
 returns-7 : tie.Need-returns-7
 returns-7 c = in_post (with_hit _ (instruction_of _)) _ _ c.before.before.before.before.before.before.before.before.before.before.if1.false c.before.before.before.before.before.before.before.before.if2.false c.before.before.before.before.before.before.if3.false c.before.before.before.before.if4.false c.before.before.if5.false c.if6.false

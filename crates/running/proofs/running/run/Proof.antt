@@ -3,7 +3,7 @@ use mathlib.Core.Path.{sym, ◌∙◌}
 use native.Mathlib.Omega.{arith}
 use borrow.Author.Rules.{rules}
 use Rattle.record.proofs.Accepted.{settled_timed}
-use Rattle.running.proofs.RunAnswer.{run-refused, run_accepted}
+use Rattle.running.proofs.RunAnswer.{run_refused, run_accepted}
 use Rattle.running.proofs.running.run.Statement.{statement}
 use Rattle.running.proofs.running.run.Tie as tie
 
@@ -14,7 +14,7 @@ start-requires : tie.Need-start-requires
 start-requires c κs = search rules
 
 returns : tie.Need-returns
-returns c = run-refused _ _ _ c.before.before.settled-refusal.ensures (omega arith) c.start.ensures
+returns c = run_refused _ _ _ c.before.before.settled-refusal.ensures (omega arith) c.start.ensures
 
 run-settled-requires : tie.Need-run-settled-requires
 run-settled-requires c κs = settled_timed _ _ (sym c.before.settled-refusal.ensures ∙ omega arith)

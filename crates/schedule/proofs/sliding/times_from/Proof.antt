@@ -1,6 +1,6 @@
 -- `times_from` meets its contract: each time follows from the one before, and each sum on the way is at most the next time.
 use Rattle.schedule.proofs.Room.{at_IF, at_ID, at_EX, at_MEM, at_last, at_post, room_in_IF, room_in_ID, room_in_EX, room_in_MEM, room_in_last}
-use Rattle.schedule.proofs.Calls.{six-times}
+use Rattle.schedule.proofs.Calls.{six_times}
 use borrow.Author.Rules.{rules}
 use Rattle.schedule.proofs.sliding.times_from.Statement.{statement}
 use Rattle.schedule.proofs.sliding.times_from.Tie as tie
@@ -52,7 +52,7 @@ returns c =
     let accessed = at_MEM _ _ _ executed c.before.before.enter-mem.ensures in
     let ended = at_last _ _ _ accessed c.before.enter-last.ensures in
     let left = at_post _ _ _ ended c.enter-post.ensures in
-    six-times fetched decoded executed accessed ended left
+    six_times fetched decoded executed accessed ended left
 
 pub times-from-spec : {M : Type 1} → statement M
 times-from-spec =

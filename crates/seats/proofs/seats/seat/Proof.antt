@@ -1,7 +1,7 @@
 -- `seat` meets its contract: an instruction that is fetched and has not left is in a slot, and so it is in the numbers.
 use native.Mathlib.Omega.{arith}
 use borrow.Author.Rules.{rules}
-use Rattle.seats.proofs.Seating.{within_seats, seat-slot}
+use Rattle.seats.proofs.Seating.{within_seats, seat_slot}
 use Rattle.seats.proofs.seats.seat.Statement.{statement}
 use Rattle.seats.proofs.seats.seat.Tie as tie
 
@@ -36,7 +36,7 @@ element-write-seats-2 c =
 returns : tie.Need-returns
 returns c =
     let p = c.before.before.requires in
-    seat-slot _ _ p.0 _ _ _ p.1 p.2 c.before.place_at.ensures
+    seat_slot _ _ p.0 _ _ _ p.1 p.2 c.before.place_at.ensures
 
 pub seat-spec : {M : Type 1} → statement M
 seat-spec =

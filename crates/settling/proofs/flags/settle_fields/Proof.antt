@@ -1,5 +1,5 @@
 -- `settle_fields` meets its contract: each flag is settled as its number is.
-use Rattle.settling.proofs.Numbers.{settled-fields}
+use Rattle.settling.proofs.Numbers.{settled_fields}
 use borrow.Author.Rules.{rules}
 use Rattle.settling.proofs.flags.settle_fields.Statement.{statement}
 use Rattle.settling.proofs.flags.settle_fields.Tie as tie
@@ -11,7 +11,7 @@ choose-requires-2 : tie.Need-choose-requires-2
 choose-requires-2 c κs = search rules
 
 returns : tie.Need-returns
-returns c = settled-fields _ _ c.before.before.choose.ensures c.choose2.ensures
+returns c = settled_fields _ _ c.before.before.choose.ensures c.choose2.ensures
 
 pub settle-fields-spec : {M : Type 1} → statement M
 settle-fields-spec = tie.close (tie.spec choose-requires choose-requires-2 returns)

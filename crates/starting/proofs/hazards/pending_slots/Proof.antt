@@ -5,7 +5,7 @@ use Rattle.machine.specs.Rules.{IF, ID, EX, MEM, ST, WB}
 use Rattle.machine.proofs.Connectives.{and_failed_l}
 use Rattle.starting.specs.Inner.{pending_in}
 use Rattle.moving.proofs.Seven.{bits_are}
-use Rattle.starting.proofs.Held.{is-pending}
+use Rattle.starting.proofs.Held.{is_pending}
 use Rattle.starting.proofs.hazards.pending_slots.Statement.{statement}
 use Rattle.starting.proofs.hazards.pending_slots.Tie as tie
 
@@ -33,12 +33,12 @@ returns c =
     let a = c.before.before.before.before.before.before.args in
     bits_are (pending_in trace a.s)
     (sym (and_failed_l _ _ refl))
-    (is-pending trace IF a.s.IF a.w.IF h.IF c.before.before.before.before.before.slot-pending.ensures)
-    (is-pending trace ID a.s.ID a.w.ID h.ID c.before.before.before.before.slot-pending2.ensures)
-    (is-pending trace EX a.s.EX a.w.EX h.EX c.before.before.before.slot-pending3.ensures)
-    (is-pending trace MEM a.s.MEM a.w.MEM (λ _. h.MEM) c.before.before.slot-pending4.ensures)
-    (is-pending trace ST a.s.ST a.w.ST h.ST c.before.slot-pending5.ensures)
-    (is-pending trace WB a.s.WB a.w.WB h.WB c.slot-pending6.ensures)
+    (is_pending trace IF a.s.IF a.w.IF h.IF c.before.before.before.before.before.slot-pending.ensures)
+    (is_pending trace ID a.s.ID a.w.ID h.ID c.before.before.before.before.slot-pending2.ensures)
+    (is_pending trace EX a.s.EX a.w.EX h.EX c.before.before.before.slot-pending3.ensures)
+    (is_pending trace MEM a.s.MEM a.w.MEM (λ _. h.MEM) c.before.before.slot-pending4.ensures)
+    (is_pending trace ST a.s.ST a.w.ST h.ST c.before.slot-pending5.ensures)
+    (is_pending trace WB a.s.WB a.w.WB h.WB c.slot-pending6.ensures)
 
 pub pending-slots-spec : {M : Type 1} → statement M
 pending-slots-spec =

@@ -12,7 +12,7 @@ use Rattle.schedule.proofs.Accepted.{length_settled, settled_timed}
 use Rattle.schedule.proofs.Pass.{pass_starts}
 use Rattle.passing.specs.Inner.{Skipped}
 use Rattle.under_way.specs.Inner.{Passed}
-use Rattle.under_way.proofs.RunPass.{begins, skips, is_fetched, not_fetched, may-seat, passes, stops}
+use Rattle.under_way.proofs.RunPass.{begins, skips, is_fetched, not_fetched, may_seat, passes, stops}
 use Rattle.under_way.proofs.seating.pass.Statement.{statement}
 use Rattle.under_way.proofs.seating.pass.Tie as tie
 
@@ -45,7 +45,7 @@ seat-requires c κs =
     let counted = loop.before.before.before in
     let entry = counted.before.before in
     let test = is_fetched entry.args.body.now entry.args.hit-cycles (flag_of entry.args.to) entry.args.limit loop.loop.next counted.count.ensures c.before.before.if1.true in
-    may-seat _ _ loop.loop.invariant.0 loop.loop.invariant.1 test.0
+    may_seat _ _ loop.loop.invariant.0 loop.loop.invariant.1 test.0
     (omega (arith, length_settled entry.args.body.now entry.args.hit-cycles (flag_of entry.args.to), few_records _ (timed_accepted _ _ entry.requires.0), test.0)) test.1
 
 add-skip-left : tie.Need-overflow-add-skip-left invariant-loop decreases-loop

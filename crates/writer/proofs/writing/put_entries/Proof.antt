@@ -1,5 +1,5 @@
 -- `put_entries` meets its contract. The loop's invariant: the first t entries are written, and `offset` is where body t starts.
-use Rattle.writer.proofs.WrittenTable.{entries_none, entries-more}
+use Rattle.writer.proofs.WrittenTable.{entries_none, entries_more}
 use Rattle.job.proofs.Starts.{start_le}
 use Rattle.job.proofs.Entries.{start_zero, start_more}
 use Rattle.writer.specs.Write.{count, table_of}
@@ -88,7 +88,7 @@ loop-again c =
       omega arith,
       ap₂ (λ (a b : ℕ). a + record_size * b) loop.invariant.2 c₄.wide.ensures.0 ∙ started,
       put.auto.0 ∙ loop.invariant.3,
-      entries-more counts o loop.out _ loop.t loop.at _ _ room
+      entries_more counts o loop.out _ loop.t loop.at _ _ room
           loop.invariant.1
           loop.invariant.2
           c₄.wide.ensures.0

@@ -1,5 +1,5 @@
 -- `put_records` meets its contract: the records are copied into the part of the output that starts at their position.
-use Rattle.little_endian.proofs.Placed.{put-part}
+use Rattle.little_endian.proofs.Placed.{put_part}
 use borrow.Author.Rules.{rules}
 use Rattle.writer.proofs.writing.put_records.Statement.{statement}
 use Rattle.writer.proofs.writing.put_records.Tie as tie
@@ -20,7 +20,7 @@ same_length : tie.Need-same-length
 same_length c = search rules
 
 returns : tie.Need-returns
-returns c = put-part _ _ _ _ c.before.before.before.before.before.before.requires c.before.before.copy.ensures.1
+returns c = put_part _ _ _ _ c.before.before.before.before.before.before.requires c.before.before.copy.ensures.1
 
 pub put-records-spec : {M : Type 1} → statement M
 put-records-spec =

@@ -1,5 +1,5 @@
 -- `write` meets its contract: a refusal, or header, table and records written one after the other.
-use Rattle.writer.proofs.WriteAnswer.{write_fine, last_end, write-refused, write_done}
+use Rattle.writer.proofs.WriteAnswer.{write_fine, last_end, write_refused, write_done}
 use Rattle.writer.specs.Write.{file_length}
 use native.Mathlib.Omega.{arith}
 use mathlib.Core.Path.{sym, ◌∙◌}
@@ -11,7 +11,7 @@ write-refusal-requires : tie.Need-write-refusal-requires
 write-refusal-requires c κs = search rules
 
 returns : tie.Need-returns
-returns c = write-refused _ _ _ _ c.before.write-refusal.ensures c.if1.true
+returns c = write_refused _ _ _ _ c.before.write-refusal.ensures c.if1.true
 
 cast-put-half : tie.Need-overflow-cast-put-half
 cast-put-half c = let fine = write_fine _ _ _ (sym c.before.before.write-refusal.ensures ∙ c.before.if1.false) in omega (arith, fine.few)
