@@ -107,12 +107,10 @@ fn too_short(x: Instruction, hit_cycles: u32) -> bool {
 
 fn some_too_short(body: &[u8], hit_cycles: u32) -> bool {
     let n = size(body);
-    let mut i = 0;
-    while i < n {
+    for i in 0..n {
         if too_short(instruction_at(body, i), hit_cycles) {
             return true;
         }
-        i += 1;
     }
     false
 }

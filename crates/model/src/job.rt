@@ -51,8 +51,7 @@ fn table_refusal(file: &[u8], traces: u32) -> u32
     requires { traces ≤ 16 }
 {
     let mut end: u32 = 2 + 6 * traces;
-    let mut k: u32 = 0;
-    while k < traces {
+    for k in 0..traces {
         let count = records(file, k);
         if count > MOST_RECORDS {
             return 5;
@@ -61,7 +60,6 @@ fn table_refusal(file: &[u8], traces: u32) -> u32
             return 6;
         }
         end += 10 * count;
-        k += 1;
     }
     if file.len() == end as usize { 0 } else { 7 }
 }
@@ -120,12 +118,10 @@ fn wide(count: u16) -> u32
 }
 
 fn some_count_above(counts: &[u16]) -> bool {
-    let mut k = 0;
-    while k < counts.len() {
+    for k in 0..counts.len() {
         if wide(counts[k]) > MOST_RECORDS {
             return true;
         }
-        k += 1;
     }
     false
 }
@@ -135,10 +131,8 @@ fn total(counts: &[u16]) -> u32
     ensures { result ≤ 1048576 }
 {
     let mut sum: u32 = 0;
-    let mut k = 0;
-    while k < counts.len() {
+    for k in 0..counts.len() {
         sum += wide(counts[k]);
-        k += 1;
     }
     sum
 }

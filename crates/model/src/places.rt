@@ -72,23 +72,19 @@ pub fn put(stages: &mut [u8], counts: &mut [u32], i: usize, at: Place) {
 // "The starting state has everything in pre."
 pub fn start(body: &[u8], stages: &mut [u8], counts: &mut [u32]) {
     let n = size(body);
-    let mut i = 0;
-    while i < n {
+    for i in 0..n {
         put_stage(stages, i, PRE);
         put_count(counts, i, 0);
-        i += 1;
     }
 }
 
 // Every instruction has left, "that is, is in post".
 pub fn all_left(body: &[u8], stages: &[u8]) -> bool {
     let n = size(body);
-    let mut i = 0;
-    while i < n {
+    for i in 0..n {
         if stage_at(stages, i) != POST {
             return false;
         }
-        i += 1;
     }
     true
 }
@@ -96,12 +92,10 @@ pub fn all_left(body: &[u8], stages: &[u8]) -> bool {
 // The oldest instruction that stands in a stage, MOST where none does.
 fn occupant(body: &[u8], stages: &[u8], stage: u8) -> usize {
     let n = size(body);
-    let mut i = 0;
-    while i < n {
+    for i in 0..n {
         if stage_at(stages, i) == stage {
             return i;
         }
-        i += 1;
     }
     MOST
 }
@@ -133,10 +127,8 @@ fn one_past_pre(stage: u8) -> usize
 pub fn fetched(body: &[u8], stages: &[u8]) -> usize {
     let n = size(body);
     let mut f = 0;
-    let mut i = 0;
-    while i < n {
+    for i in 0..n {
         f += one_past_pre(stage_at(stages, i));
-        i += 1;
     }
     f
 }

@@ -49,15 +49,13 @@ fn all_standing<'a>(body: &'a [u8], stages: &'a [u8], counts: &'a [u32]) -> Stan
     let n = size(body);
     let mut older = none();
     let mut s = nothing();
-    let mut i = 0;
-    while i < n {
+    for i in 0..n {
         let at = place_at(stages, counts, i);
         if at.stage != POST {
             let x = instruction_at(body, i);
             s = seen(s, x.kind, at, ready(x, at.stage, older));
             older = one_more(older, x, at);
         }
-        i += 1;
     }
     s
 }
@@ -185,9 +183,7 @@ pub fn cycle(body: &[u8], stages: &mut [u8], counts: &mut [u32], hit_cycles: u32
     let free = all_free(all_standing(body, stages, counts));
     let n = size(body);
     let mut older = none();
-    let mut i = 0;
-    while i < n {
+    for i in 0..n {
         older = move_one(body, stages, counts, i, older, free, hit_cycles);
-        i += 1;
     }
 }

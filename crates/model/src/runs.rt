@@ -63,13 +63,11 @@ fn latencies(x: Instruction, hit_cycles: u32) -> u32 {
 pub fn bound(body: &[u8], hit_cycles: u32) -> u32 {
     let n = size(body);
     let mut total: u32 = 0;
-    let mut i = 0;
-    while i < n {
+    for i in 0..n {
         total = sum(
             total,
             sum(6, latencies(instruction_at(body, i), hit_cycles)),
         );
-        i += 1;
     }
     total
 }

@@ -23,10 +23,8 @@ fn unknown_in(x: Instruction) -> u32
 pub fn unknowns(body: &[u8]) -> u32 {
     let n = size(body);
     let mut found: u32 = 0;
-    let mut i = 0;
-    while i < n {
+    for i in 0..n {
         found += unknown_in(instruction_at(body, i));
-        i += 1;
     }
     found
 }
@@ -90,12 +88,10 @@ pub fn put_byte(out: &mut [u8], at: usize, b: u8) {
 // access.
 pub fn settle(body: &[u8], choice: u32, out: &mut [u8]) {
     let mut bits = choice;
-    let mut at = 0;
-    while at < body.len() {
+    for at in 0..body.len() {
         let b = byte(body, at);
         put_byte(out, at, settled_byte(b, at, bits));
         bits = left_after(b, at, bits);
-        at += 1;
     }
 }
 
@@ -113,10 +109,8 @@ fn uniform_byte(b: u8, at: usize, flag: u8) -> u8
 pub fn settle_all(body: &[u8], flag: u8, out: &mut [u8])
     requires { flag < 4 }
 {
-    let mut at = 0;
-    while at < body.len() {
+    for at in 0..body.len() {
         put_byte(out, at, uniform_byte(byte(body, at), at, flag));
-        at += 1;
     }
 }
 
@@ -124,12 +118,10 @@ pub fn settle_all(body: &[u8], flag: u8, out: &mut [u8])
 fn last_choice(body: &[u8]) -> u32 {
     let flags = unknowns(body);
     let mut choice: u32 = 0;
-    let mut k: u32 = 0;
-    while k < flags {
+    for _ in 0..flags {
         if choice < 2147483648 {
             choice = 2 * choice + 1;
         }
-        k += 1;
     }
     choice
 }
