@@ -27,11 +27,9 @@ pub fn is_under_way(x: Instruction, at: Place) -> bool {
 pub fn under_way<'a>(body: &'a [u8], stages: &'a [u8], counts: &'a [u32]) -> u32 {
     let n = model::size(body);
     let mut found: u32 = 0;
-    let mut i = 0;
-    while i < n {
+    for i in 0..n {
         let at = model::place_at(stages, counts, i);
         found += one_if(is_under_way(model::instruction_at(body, i), at));
-        i += 1;
     }
     found
 }
@@ -64,14 +62,12 @@ pub fn watch(body: &[u8], stages: &mut [u8], counts: &mut [u32], hit_cycles: u32
         busy: 0,
         most: 0,
     };
-    let mut cycle: u32 = 0;
-    while cycle < bound {
+    for _ in 0..bound {
         if model::all_left(body, stages) {
             return w;
         }
         w = with_row(w, under_way(body, stages, counts));
         model::cycle(body, stages, counts, hit_cycles);
-        cycle += 1;
     }
     w
 }

@@ -43,10 +43,8 @@ fn counted(x: Instruction) -> u32
 pub fn accesses(body: &[u8]) -> u32 {
     let n = model::size(body);
     let mut found: u32 = 0;
-    let mut i = 0;
-    while i < n {
+    for i in 0..n {
         found += counted(model::instruction_at(body, i));
-        i += 1;
     }
     found
 }
@@ -63,12 +61,10 @@ fn too_long(x: Instruction, wait: u32) -> bool {
 
 fn some_too_long(body: &[u8], wait: u32) -> bool {
     let n = model::size(body);
-    let mut i = 0;
-    while i < n {
+    for i in 0..n {
         if too_long(model::instruction_at(body, i), wait) {
             return true;
         }
-        i += 1;
     }
     false
 }
@@ -86,10 +82,8 @@ pub fn bus_refusal(body: &[u8], wait: u32, hit_cycles: u32) -> u32 {
 // nothing wraps.
 fn with_waits(worst: u32, n: u32, wait: u32) -> u32 {
     let mut time = worst;
-    let mut k: u32 = 0;
-    while k < n {
+    for _ in 0..n {
         time = wrapping_add_u32(time, wait);
-        k += 1;
     }
     time
 }

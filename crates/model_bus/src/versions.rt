@@ -81,10 +81,8 @@ pub fn version(body: &[u8], choice: u32, wait: u32, out: &mut [u8]) -> u32
     model::settle_all(body, model::MISS, out);
     let n = model::size(body);
     let mut left = choice;
-    let mut i = 0;
-    while i < n {
+    for i in 0..n {
         left = put_version(model::instruction_at(body, i), left, wait, out, i * RECORD);
-        i += 1;
     }
     left
 }
