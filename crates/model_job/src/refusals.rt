@@ -15,12 +15,10 @@ fn file_refusal(file: &[u8]) -> u32 {
 
 // T of an accepted file: the lowest trace number that Open declines, since it is "not below T".
 pub fn traces_in(file: &[u8]) -> u32 {
-    let mut trace: u32 = 0;
-    while trace < MOST_TRACES {
+    for trace in 0..MOST_TRACES {
         if model::open_refusal(file, trace) == NO_SUCH_TRACE {
             return trace;
         }
-        trace += 1;
     }
     MOST_TRACES
 }
@@ -52,12 +50,10 @@ fn hits_declined(file: &[u8], traces: u32, hit_cycles: u32) -> bool {
     if hit_cycles > model::MOST_HIT_CYCLES {
         return true;
     }
-    let mut trace: u32 = 0;
-    while trace < traces {
+    for trace in 0..traces {
         if trace_declined(file, trace, hit_cycles) {
             return true;
         }
-        trace += 1;
     }
     false
 }

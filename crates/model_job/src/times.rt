@@ -102,11 +102,9 @@ fn fill(
     counts: &mut [u32],
     hit_cycles: u32,
 ) {
-    let mut trace: u32 = 0;
-    while trace < traces {
+    for trace in 0..traces {
         let time = worst_alone(file, trace, flags, out, stages, counts, hit_cycles);
         put_time(times, trace as usize, time);
-        trace += 1;
     }
 }
 
