@@ -1,7 +1,7 @@
 -- the cycle, the six slots and the line's end are one text
 use Rattle.std.proofs.Common.{arith}
 use Rattle.text.proofs.Pieces.{wrote_then, as_text, decimal_short}
-use Rattle.chart_lines.proofs.Lengths.{slots_short, row-joined}
+use Rattle.chart_lines.proofs.Lengths.{slots_short, row_joined}
 use Rattle.chart_lines.proofs.lines.put_row.Goals as goal
 
 pub put_decimal-slots-requires : goal.put_decimal-slots-requires
@@ -28,7 +28,7 @@ put_byte-requires c =
 pub returns : goal.returns
 returns c =
     as_text _ _
-    (row-joined _ _)
+    (row_joined _ _)
     (wrote_then _ _ _ _
     (wrote_then _ _ _ _ (wrote_then _ _ _ _ c.put_decimal-slots.ensures c.put_slots-rest.ensures) c.put_slots-end.ensures)
     c.put_byte.ensures)

@@ -1,7 +1,7 @@
 -- two numbers, each after its label
 use Rattle.std.proofs.Common.{[], ◌∷◌, arith}
 use Rattle.text.proofs.Pieces.{wrote_then, as_text}
-use Rattle.chart_lines.proofs.Lengths.{labelled_short, times-joined}
+use Rattle.chart_lines.proofs.Lengths.{labelled_short, times_joined}
 use Rattle.chart_lines.proofs.lines.put_times.Goals as goal
 
 pub put_labelled-end-requires : goal.put_labelled-end-requires
@@ -18,7 +18,7 @@ put_byte-requires c =
 pub returns : goal.returns
 returns c =
     as_text _ _
-    (times-joined _ _)
+    (times_joined _ _)
     (wrote_then _ _ _ _
     (wrote_then _ _ _ _ c.put_labelled-between.ensures c.put_labelled-end.ensures)
     c.put_byte.ensures)
