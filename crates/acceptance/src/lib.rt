@@ -43,13 +43,11 @@ fn known_refusal(body: &[u8]) -> u32
 {
     let records = body.len() / RECORD_SIZE;
     let mut unknown = false;
-    let mut k = 0;
-    while k < records {
+    for k in 0..records {
         if breaks_rules(body, k * RECORD_SIZE) {
             return BROKEN_RECORD;
         }
         unknown = unknown | unknown_from(body, k * RECORD_SIZE);
-        k += 1;
     }
     if unknown {
         return UNKNOWN_FLAG;
@@ -80,12 +78,10 @@ pub fn hit_refusal(body: &[u8], hit_cycles: u32) -> u32
         return 0;
     }
     let all = body.len() / RECORD_SIZE;
-    let mut k = 0;
-    while k < all {
+    for k in 0..all {
         if not_above_from(body, k * RECORD_SIZE, hit_cycles) {
             return LONG_HIT;
         }
-        k += 1;
     }
     0
 }

@@ -4,13 +4,8 @@ use Rattle.record.specs.Body.{records, length_refusal}
 use Rattle.record.specs.Layout.{record_size}
 use Rattle.record.specs.Refusal.{◌unless◌, wrong_length}
 use borrow.Author.Tests.{eq-eqb, ne_eqb, lt-leb, le-leb}
-use native.Mathlib.Omega.{arith}
-use lib.ListN.{length}
-use mathlib.Core.List.{List}
-use mathlib.Core.Path.{◌≡◌}
-use Prim.Native.Nat.{ℕ, ◌%◌, ◌≤◌, ◌<◌}
-use Rattle.acceptance.proofs.length_refusal.Statement.{statement}
-use Rattle.acceptance.proofs.length_refusal.Tie as tie
+use Rattle.std.proofs.Common.{arith, ◌≡◌, ℕ, ◌%◌, ◌≤◌, ◌<◌, List, length}
+use Rattle.acceptance.proofs.length_refusal.Goals as goal
 
 -- the answer from what the tests mean, so that the proof does not depend on how the code writes them
 module _ (body : List ℕ) where
@@ -26,14 +21,11 @@ module _ (body : List ℕ) where
   unfolding length_refusal ◌unless◌
   right whole few = rw (eq-eqb (length body % record_size) 0 whole, le-leb (records body) max_instructions few)
 
-returns : tie.Need-returns
-returns c = broken _ (omega arith)
+pub returns-then-body-ne0 : goal.returns-then-body-ne0
+returns-then-body-ne0 c = broken _ (omega arith)
 
-returns-2 : tie.Need-returns-2
-returns-2 c = long _ (omega arith) (omega arith)
+pub returns-then-body-gt-MAX_RECORDS : goal.returns-then-body-gt-MAX_RECORDS
+returns-then-body-gt-MAX_RECORDS c = long _ (omega arith) (omega arith)
 
-returns-3 : tie.Need-returns-3
-returns-3 c = right _ (omega arith) (omega arith)
-
-pub length-refusal-spec : {M : Type 1} → statement M
-length-refusal-spec = tie.close (tie.spec returns returns-2 returns-3)
+pub returns : goal.returns
+returns c = right _ (omega arith) (omega arith)
