@@ -4,18 +4,11 @@ use mathlib.Core.Path.{refl, sym, ap, ◌∙◌}
 use native.Mathlib.Omega.{arith}
 use Rattle.machine.proofs.Masks.{short_number, pending_number}
 use Rattle.decode.proofs.Joined.{both_of, either_of}
-use Rattle.decode.proofs.waits.pending.Statement.{statement}
-use Rattle.decode.proofs.waits.pending.Tie as tie
+use Rattle.decode.proofs.waits.pending.Goals as goal
 
-goal-requires : tie.Need-goal-requires
-goal-requires c κs = tt
-
-returns : tie.Need-returns
+pub returns : goal.returns
 returns c =
-    let a = c.before.args in
+    let a = c.args in
     either_of refl (both_of refl refl)
-    ∙ ap (λ (to : ℕ). short_number to a.stage a.count) c.goal.ensures
+    ∙ ap (λ (to : ℕ). short_number to a.stage a.count) c.goal-to.ensures
     ∙ sym (pending_number a.stage a.count (omega arith) (omega arith) _)
-
-pub pending-spec : {M : Type 1} → statement M
-pending-spec = tie.close (tie.spec goal-requires returns)

@@ -1,0 +1,8 @@
+-- `access_hits` meets its contract: an access hits where its number is 0.
+use Rattle.record.specs.Rules.{instruction_of}
+use Rattle.decode.proofs.Numbers.{hit_number}
+use Rattle.decode.proofs.kinds.access_hits.Goals as goal
+
+pub returns : goal.returns
+unfolding instruction_of
+returns c = hit_number _

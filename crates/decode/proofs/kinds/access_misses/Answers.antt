@@ -1,0 +1,8 @@
+-- `access_misses` meets its contract: an access misses where its number is 1.
+use Rattle.record.specs.Rules.{instruction_of}
+use Rattle.decode.proofs.Numbers.{miss_number}
+use Rattle.decode.proofs.kinds.access_misses.Goals as goal
+
+pub returns : goal.returns
+unfolding instruction_of
+returns c = miss_number _

@@ -1,0 +1,8 @@
+-- `is_store` meets its contract: a kind is recognised by its number.
+use Rattle.record.specs.Rules.{instruction_of}
+use Rattle.decode.proofs.Numbers.{store_number}
+use Rattle.decode.proofs.kinds.is_store.Goals as goal
+
+pub returns : goal.returns
+unfolding instruction_of
+returns c = store_number _
