@@ -1,16 +1,15 @@
 // What came of a call, held against what its line tells behind the `=`.
-use super::read::{Told, number};
-use bytes::scan::find;
+use super::read::{Told, find, number};
 use machine::State;
 
 // The first number of the answer.
 pub fn first(s: &[u8]) -> Told {
-    number(s, find(s, 0, s.len(), b'='))
+    number(s, find(s, 0, b'='))
 }
 
 // The line tells these numbers, and no more.
 pub fn says_all(s: &[u8], answer: &[u32]) -> bool {
-    let mut at = find(s, 0, s.len(), b'=');
+    let mut at = find(s, 0, b'=');
     let mut i = 0;
     while i < answer.len() {
         let next = number(s, at);

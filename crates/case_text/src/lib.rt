@@ -8,4 +8,4 @@ mod read;
 
 pub use answer::{first, says, says_all, says_margin, says_state};
 pub use print::{differs, end_group};
-pub use read::{Told, lay, narrow, nth, read_counts, state_at, wide};
+pub use read::{Told, find, lay, narrow, nth, read_counts, state_at, wide};

@@ -1,12 +1,10 @@
 // What a line gives: numbers, a state, counts, and bytes.
-ghost use Rattle.std.specs.Prelude.{◌<◌, ◌≤◌, length};
+ghost use Rattle.std.specs.Prelude.{◌≡◌, ◌≢◌, ℕ, ◌<◌, ◌≤◌, length, slice_index};
 
-use bytes::scan::find;
 use deadlines::deadline_of;
 use little_endian::put_half;
 use machine::{Slot, State};
 use parts::cut;
-use std::num::wrapping_add_usize;
 
 // A number, 0 where there is none, and the index after it.
 #[derive(Clone, Copy, Drop)]
@@ -27,16 +25,30 @@ pub fn narrow(n: usize) -> u32 {
     (n % 4294967296) as u32
 }
 
+// Where the byte stands first, from an index on, or the length where it does not.
+pub fn find(s: &[u8], from: usize, byte: u8) -> usize
+    ensures within { result ≤ length s.now }
+    ensures before { (k : ℕ) → from ≤ k → k < result → slice_index s.now k ≢ byte }
+    ensures found { result < length s.now → slice_index s.now result ≡ byte }
+{
+    for i in from..s.len() {
+        if s[i] == byte {
+            return i;
+        }
+    }
+    s.len()
+}
+
 // The number behind the character at an index, as far as the next space. It is written as a deadline is.
 pub fn number(s: &[u8], at: usize) -> Told {
-    let from = wrapping_add_usize(at, 1);
+    let from = at.wrapping_add(1);
     let rest = cut(s, from, s.len());
-    let end = find(rest, 0, rest.len(), b' ');
+    let end = find(rest, 0, b' ');
     let word = deadline_of(cut(rest, 0, end));
     Told {
         valid: word.valid,
         value: word.cycles,
-        next: wrapping_add_usize(from, end),
+        next: from.wrapping_add(end),
     }
 }
 

@@ -18,7 +18,9 @@ mod lines;
 mod second;
 mod writing;
 
-ghost use Rattle.std.specs.Prelude.{◌≡◌, length};
+ghost use Rattle.std.specs.Prelude.{◌≡◌, ◌≤◌, length, IfOk};
+
+use std::io::{self, Read};
 
 // Room for all lines, for the bytes of a case and those beside them, or for an output, and what that holds
 // before. The contract gives only the length: what the array holds would be carried along at a cost.
@@ -28,9 +30,25 @@ fn room() -> [u8; 900000]
     [165; 900000]
 }
 
-fn main() {
+// Reads to the end of the input, or until the room is full; says how many bytes were read.
+fn read_full<R: Read>(reader: &mut R, into: &mut [u8]) -> io::Result<usize>
+    ensures room { length into.new ≡ length into.old }
+    ensures read { IfOk result (λ n. n ≤ length into.new) }
+{
+    let mut n = 0;
+    for _ in 0..u64::MAX {
+        let more = reader.read(&mut into[n..])?;
+        if more == 0 {
+            break;
+        }
+        n += more;
+    }
+    Ok(n)
+}
+
+fn main(rt: HostRuntime) -> io::Result<()> {
     let mut data = room();
     let mut bytes = room();
-    let n = io::read_full(0, &mut data);
-    lines::each_line(&data[..n], &mut bytes);
+    let n = read_full(&mut rt.reader(), &mut data)?;
+    lines::each_line(&mut io::writer(&rt), &data[..n], &mut bytes)
 }

@@ -3,11 +3,10 @@ use crate::jobs::fills;
 use crate::writing::writes;
 use case_text::{first, narrow, says, says_margin, says_state};
 use machine::{Slot, State};
-use std::num::wrapping_add_usize;
 
 fn open(s: &[u8], trace: u32, file: &[u8]) -> bool {
     let found = model::open(file, trace);
-    let end = wrapping_add_usize(found.start, found.length);
+    let end = found.start.wrapping_add(found.length);
     says(s, found.refusal, narrow(found.start), narrow(end))
 }
 
