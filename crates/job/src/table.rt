@@ -77,8 +77,7 @@ fn entries_of(file: &[u8], count: u32) -> Entries
     ensures { (result.refusal ≡ entries_refusal file.now) × (result.refusal ≡ 0 → result.end ≡ start_at file.now count) }
 {
     let mut end = HEADER_SIZE + ENTRY_SIZE * count;
-    let mut t = 0;
-    while t < count {
+    for t in 0..count {
         let at = HEADER_SIZE + ENTRY_SIZE * t;
         let instructions = half(file, at + COUNT_IN_ENTRY);
         if instructions > State::MAX_INSTRUCTIONS {
@@ -94,7 +93,6 @@ fn entries_of(file: &[u8], count: u32) -> Entries
             };
         }
         end += RECORD_BYTES * instructions;
-        t += 1;
     }
     Entries { refusal: 0, end }
 }

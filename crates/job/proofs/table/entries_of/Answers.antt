@@ -1,0 +1,36 @@
+-- `entries_of` meets its contract, entry by entry.
+use Rattle.std.proofs.Common.{◌≡◌, ℕ, ◌+◌, ◌*◌, sym, ◌∙◌, ap, ap₂, arith}
+use Rattle.record.specs.Layout.{record_size}
+use Rattle.job.specs.Layout.{start_at}
+use Rattle.job.proofs.Entries.{entry_large, entry_offset, entry_fine, start_zero, start_more, entries_stop, entries_pass}
+use Rattle.job.proofs.First.{first_zero, first_more}
+use Rattle.job.proofs.table.entries_of.Goals as goal
+
+pub loop-t-init : goal.loop-t-init
+loop-t-init c =
+    record {
+      ends = ap (λ (n : ℕ). 2 + 6 * n) c.requires.0 ∙ sym (start_zero _ _);
+      passes = first_zero _;
+      bound = omega arith;
+    }
+
+pub returns-then-instructions-gt-MAX_INSTRUCTIONS : goal.returns-then-instructions-gt-MAX_INSTRUCTIONS
+returns-then-instructions-gt-MAX_INSTRUCTIONS c =
+    (entries_stop _ c.loop-t.t _ (omega arith) c.loop-t.invariant.passes (entry_large _ _ (rw c.half-instructions.ensures.0 at c.if-instructions-gt-MAX_INSTRUCTIONS.true)), λ e. omega arith)
+
+pub returns-then-word-end : goal.returns-then-word-end
+returns-then-word-end c =
+    (entries_stop _ c.loop-t.t _ (omega arith) c.loop-t.invariant.passes (entry_offset _ _ (rw c.half-instructions.ensures.0 at c.if-instructions-gt-MAX_INSTRUCTIONS.false) (λ e. c.if-word-end.true (c.word.ensures.0 ∙ e ∙ sym c.loop-t.invariant.ends))), λ e. omega arith)
+
+pub loop-t-preserved : goal.loop-t-preserved
+loop-t-preserved c =
+    record {
+      ends = ap₂ (λ (a b : ℕ). a + record_size * b) c.loop-t.invariant.ends c.half-instructions.ensures.0 ∙ sym (start_more _ _ _);
+      passes = first_more _ _ c.loop-t.invariant.passes (entry_fine _ _ (rw c.half-instructions.ensures.0 at c.if-instructions-gt-MAX_INSTRUCTIONS.false) (sym c.word.ensures.0 ∙ c.if-word-end.false ∙ c.loop-t.invariant.ends));
+      bound = omega arith;
+    }
+
+pub returns : goal.returns
+returns c =
+    let end : c.loop-t.t ≡ c.args.count = omega arith in
+    (entries_pass _ _ (end ∙ c.requires.0) c.loop-t.invariant.passes, λ e. c.loop-t.invariant.ends ∙ ap (start_at c.args.file.now) end)
