@@ -4,6 +4,7 @@
 // number."
 use super::output::{field, last, number, text};
 use model::Times;
+use std::io;
 
 const LAST_ROW: u32 = 1000;
 
@@ -13,56 +14,68 @@ const HIT_CYCLES: u32 = 0;
 // Up to this many unknown flags every settling is run.
 const FEW: u32 = 8;
 
-fn slot<'a>(body: &'a [u8], stages: &'a [u8], counts: &'a [u32], stage: u8) {
+fn slot<'a>(
+    rt: &impl Print,
+    body: &'a [u8],
+    stages: &'a [u8],
+    counts: &'a [u32],
+    stage: u8,
+) -> io::Result<()> {
     let s = model::in_stage(body, stages, counts, stage);
     if s.filled {
-        text(b" ");
-        io::print_decimal(1, s.index as u64);
-        field(b":", s.count);
+        text(rt, b" ")?;
+        rt.print(s.index)?;
+        field(rt, b":", s.count)
     } else {
-        text(b" -");
+        text(rt, b" -")
     }
 }
 
-fn row<'a>(cycle: u32, body: &'a [u8], stages: &'a [u8], counts: &'a [u32]) {
-    number(cycle);
-    slot(body, stages, counts, model::IF);
-    slot(body, stages, counts, model::ID);
-    slot(body, stages, counts, model::EX);
-    slot(body, stages, counts, model::MEM);
-    slot(body, stages, counts, model::ST);
-    slot(body, stages, counts, model::WB);
-    text(b"\n");
+fn row<'a>(
+    rt: &impl Print,
+    cycle: u32,
+    body: &'a [u8],
+    stages: &'a [u8],
+    counts: &'a [u32],
+) -> io::Result<()> {
+    number(rt, cycle)?;
+    slot(rt, body, stages, counts, model::IF)?;
+    slot(rt, body, stages, counts, model::ID)?;
+    slot(rt, body, stages, counts, model::EX)?;
+    slot(rt, body, stages, counts, model::MEM)?;
+    slot(rt, body, stages, counts, model::ST)?;
+    slot(rt, body, stages, counts, model::WB)?;
+    text(rt, b"\n")
 }
 
-fn rows(body: &[u8], stages: &mut [u8], counts: &mut [u32]) {
+fn rows(rt: &impl Print, body: &[u8], stages: &mut [u8], counts: &mut [u32]) -> io::Result<()> {
     model::start(body, stages, counts);
-    row(0, body, stages, counts);
-    let mut cycle: u32 = 0;
-    while cycle < LAST_ROW {
+    row(rt, 0, body, stages, counts)?;
+    for cycle in 0..LAST_ROW {
         if model::all_left(body, stages) {
-            return;
+            return Ok(());
         }
         model::cycle(body, stages, counts, HIT_CYCLES);
-        cycle += 1;
-        row(cycle, body, stages, counts);
+        row(rt, cycle + 1, body, stages, counts)?;
     }
+    Ok(())
 }
 
 // The rows of a settled body that stands at the start of `settled`.
-fn settled_rows(settled: &[u8], length: usize) {
+fn settled_rows(rt: &impl Print, settled: &[u8], length: usize) -> io::Result<()> {
     let mut stages = [0u8; 4096];
     let mut counts = [0u32; 4096];
     if length <= settled.len() {
-        rows(&settled[..length], &mut stages, &mut counts);
+        rows(rt, &settled[..length], &mut stages, &mut counts)?;
     }
+    Ok(())
 }
 
 // "With unknowns as misses."
-fn rows_of_misses(body: &[u8]) {
+fn rows_of_misses(rt: &impl Print, body: &[u8]) -> io::Result<()> {
     let mut settled = [0u8; 40960];
     model::settle_all(body, model::MISS, &mut settled);
-    settled_rows(&settled, body.len());
+    settled_rows(rt, &settled, body.len())
 }
 
 // Over all settlings where the unknown flags are few; otherwise with all of them hits, and all misses.
@@ -73,29 +86,28 @@ fn times(body: &[u8]) -> Times {
     model::bounds(body, HIT_CYCLES)
 }
 
-fn of_body(body: &[u8]) {
-    text(b"cycle IF ID EX MEM ST WB\n");
-    rows_of_misses(body);
+fn of_body(rt: &impl Print, body: &[u8]) -> io::Result<()> {
+    text(rt, b"cycle IF ID EX MEM ST WB\n")?;
+    rows_of_misses(rt, body)?;
     let t = times(body);
-    field(b"worst ", t.worst);
-    last(b" best ", t.best);
+    field(rt, b"worst ", t.worst)?;
+    last(rt, b" best ", t.best)
 }
 
-fn of_part(file: &[u8], start: usize, length: usize) {
+fn of_part(rt: &impl Print, file: &[u8], start: usize, length: usize) -> io::Result<()> {
     if start > file.len() {
-        return;
+        return Ok(());
     }
     if length > file.len() - start {
-        return;
+        return Ok(());
     }
-    of_body(&file[start..start + length]);
+    of_body(rt, &file[start..start + length])
 }
 
-pub fn print_chart(file: &[u8]) {
+pub fn print_chart(rt: &impl Print, file: &[u8]) -> io::Result<()> {
     let opened = model::open(file, 0);
     if opened.refusal != 0 {
-        last(b"refused ", opened.refusal);
-        return;
+        return last(rt, b"refused ", opened.refusal);
     }
-    of_part(file, opened.start, opened.length);
+    of_part(rt, file, opened.start, opened.length)
 }

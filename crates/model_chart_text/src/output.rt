@@ -1,21 +1,22 @@
 // Words and numbers on standard output.
+use std::io;
 
-pub fn text(s: &[u8]) {
-    io::write_all(1, s);
+pub fn text(rt: &impl Print, s: &[u8]) -> io::Result<()> {
+    rt.write_all(s)
 }
 
-pub fn number(n: u32) {
-    io::print_decimal(1, n as u64);
+pub fn number(rt: &impl Print, n: u32) -> io::Result<()> {
+    rt.print(n)
 }
 
 // A word and a number after it.
-pub fn field(word: &[u8], n: u32) {
-    text(word);
-    number(n);
+pub fn field(rt: &impl Print, word: &[u8], n: u32) -> io::Result<()> {
+    text(rt, word)?;
+    number(rt, n)
 }
 
 // The last field of a line.
-pub fn last(word: &[u8], n: u32) {
-    field(word, n);
-    text(b"\n");
+pub fn last(rt: &impl Print, word: &[u8], n: u32) -> io::Result<()> {
+    field(rt, word, n)?;
+    text(rt, b"\n")
 }
