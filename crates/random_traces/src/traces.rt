@@ -155,10 +155,8 @@ pub fn trace(dice: Dice, style: Style) -> Draft {
         n: n as usize,
         dice: d,
     };
-    let mut k = 0;
-    while k < n {
+    for k in 0..n {
         draft = with_record(draft, k, style);
-        k += 1;
     }
     draft
 }
