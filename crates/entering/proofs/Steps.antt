@@ -4,7 +4,7 @@ use mathlib.Core.Bool.{Bool, cond}
 use mathlib.Core.Path.{◌≡◌, ◌∙◌}
 use native.Mathlib.Omega.{arith}
 use Rattle.machine.specs.Instruction.{Instruction}
-use Rattle.machine.specs.Rules.{IF, EX, MEM, is_store, hits, entry, reads_in_ID, misses_data}
+use Rattle.machine.specs.Rules.{IF, MEM, is_store, hits, entry, reads_in_ID, misses_data}
 use Rattle.machine.specs.Hits.{with_hit}
 use Rattle.machine.proofs.Window.{enter_IF, enter_ID, enter_EX, enter_MEM, enter_last}
 use Rattle.record.specs.declared.layout.Fields.{Fields}
