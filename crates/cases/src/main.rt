@@ -30,25 +30,25 @@ fn room() -> [u8; 900000]
     [165; 900000]
 }
 
-// Reads to the end of the input, or until the room is full; says how many bytes were read.
-fn read_full<R: Read>(reader: &mut R, into: &mut [u8]) -> io::Result<usize>
-    ensures room { length into.new ≡ length into.old }
-    ensures read { IfOk result (λ n. n ≤ length into.new) }
+// Reads until the room is full or the input ends, and says how many bytes it put at the room's start.
+fn read_full(rt: &impl Input, into: &mut [u8]) -> io::Result<usize>
+    ensures { IfOk result (λ n. n ≤ length into.new) }
 {
-    let mut n = 0;
-    for _ in 0..u64::MAX {
-        let more = reader.read(&mut into[n..])?;
-        if more == 0 {
-            break;
+    let mut input = rt.reader();
+    let mut done = 0;
+    while done < into.len() {
+        let n = input.read(&mut into[done..])?;
+        if n == 0 {
+            return Ok(done);
         }
-        n += more;
+        done += n;
     }
-    Ok(n)
+    Ok(done)
 }
 
 fn main(rt: HostRuntime) -> io::Result<()> {
     let mut data = room();
     let mut bytes = room();
-    let n = read_full(&mut rt.reader(), &mut data)?;
+    let n = read_full(&rt, &mut data)?;
     lines::each_line(&mut io::writer(&rt), &data[..n], &mut bytes)
 }
