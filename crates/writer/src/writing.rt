@@ -37,12 +37,10 @@ fn wide(x: u16) -> u32
 fn counts_refusal(counts: &[u16]) -> u32
     ensures { result ≡ counts_refusal counts.now }
 {
-    let mut t = 0;
-    while t < counts.len() {
+    for t in 0..counts.len() {
         if wide(counts[t]) > State::MAX_INSTRUCTIONS {
             return LARGE_COUNT;
         }
-        t += 1;
     }
     0
 }
@@ -52,10 +50,8 @@ fn sum_of(counts: &[u16]) -> u32
     ensures { (result ≡ sum counts.now) × (result < 1048576) }
 {
     let mut total = 0;
-    let mut t = 0;
-    while t < counts.len() {
+    for t in 0..counts.len() {
         total += wide(counts[t]);
-        t += 1;
     }
     total
 }
@@ -103,13 +99,11 @@ fn put_entries(counts: &[u16], out: &mut [u8])
 {
     let mut at = HEADER_SIZE as usize;
     let mut offset = HEADER_SIZE + ENTRY_SIZE * counts.len() as u32;
-    let mut t = 0;
-    while t < counts.len() {
+    for t in 0..counts.len() {
         let n = wide(counts[t]);
         put_entry(out, at, offset, n);
         at += ENTRY_SIZE as usize;
         offset += RECORD_BYTES * n;
-        t += 1;
     }
 }
 
