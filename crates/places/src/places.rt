@@ -10,7 +10,7 @@ ghost use Rattle.places.specs.Inner.{numbered};
 use decode::{count_in_if, count_in_last, count_in_mem, kind, less};
 use following::next;
 use machine::Stage;
-use machine::stage::{EX, ID, IF, MEM, POST, PRE, number};
+use machine::stage::{self, EX, ID, IF, POST, PRE, number};
 use record::Fields;
 use schedule::Times;
 
@@ -58,7 +58,7 @@ pub fn place_at(f: Fields, e: Times, t: u32, hit_cycles: u32) -> Place
     }
     if t < e.last {
         return Place {
-            stage: MEM,
+            stage: stage::MEM,
             count: less(count_in_mem(f, hit_cycles), t - e.MEM),
         };
     }
