@@ -5,23 +5,41 @@
 
 mod tell;
 
+ghost use Rattle.std.specs.Prelude.{◌≡◌, ◌≤◌, length};
+
 use deadlines::{Deadline, deadline_of};
-use libc::{STDIN_FILENO, STDOUT_FILENO};
 use report_text::{REPORT_BYTES, report};
+use std::env::FillError;
+use std::io;
+use std::io::Read;
+use std::rt::Env;
 
 const MAX_TRACES: usize = 16;
 
+// The most bytes of an argument that is read.
+const WORD_BYTES: usize = 4096;
+
 // A word that is longer than the buffer is no deadline.
-fn deadline_in(i: usize) -> Deadline {
-    let mut word = io::buffer();
-    let n = os::arg(i, &mut word);
-    if os::errno() != 0 {
-        return Deadline {
+fn deadline_in(rt: &impl Env, i: usize) -> Deadline {
+    let mut word = [0u8; WORD_BYTES];
+    match rt.arg(i, &mut word) {
+        Ok(n) => deadline_of(&word[..n]),
+        Err(_) => Deadline {
             valid: false,
             cycles: 0,
-        };
+        },
     }
-    deadline_of(&word[..n])
+}
+
+// How many arguments there are, the program's name among them.
+fn arg_count(rt: &impl Env) -> usize {
+    let mut word = [0u8; WORD_BYTES];
+    for i in 0..usize::MAX {
+        if matches!(rt.arg(i, &mut word), Err(FillError::NotPresent)) {
+            return i;
+        }
+    }
+    usize::MAX
 }
 
 fn keep(deadlines: &mut [u32], i: usize, cycles: u32) {
@@ -31,35 +49,20 @@ fn keep(deadlines: &mut [u32], i: usize, cycles: u32) {
     deadlines[i] = cycles;
 }
 
-fn same(a: &[u8], b: &[u8]) -> bool {
-    if a.len() != b.len() {
-        return false;
-    }
-    let mut i = 0;
-    while i < a.len() {
-        if a[i] != b[i] {
-            return false;
-        }
-        i += 1;
-    }
-    true
-}
-
 // Whether the first argument is the option before the cycles of a data hit.
-fn has_option() -> bool {
-    let mut word = io::buffer();
-    let n = os::arg(1, &mut word);
-    if os::errno() != 0 {
-        return false;
+fn has_option(rt: &impl Env) -> bool {
+    let mut word = [0u8; WORD_BYTES];
+    match rt.arg(1, &mut word) {
+        Ok(n) => &word[..n] == b"--hit-cycles".as_slice(),
+        Err(_) => false,
     }
-    same(&word[..n], b"--hit-cycles")
 }
 
 // The cycles of a data hit, from the argument after the option, a number of cycles as a deadline is;
 // without the option there are none.
-fn hit_cycles_in(option: bool) -> Deadline {
+fn hit_cycles_in(rt: &impl Env, option: bool) -> Deadline {
     if option {
-        return deadline_in(2);
+        return deadline_in(rt, 2);
     }
     Deadline {
         valid: true,
@@ -69,65 +72,78 @@ fn hit_cycles_in(option: bool) -> Deadline {
 
 // Puts the deadlines of arguments `first` to the last into the list, as far as it has room, and gives
 // the first argument that is no deadline, or 0.
-fn read_deadlines(first: usize, count: usize, deadlines: &mut [u32]) -> usize {
-    let mut i = first;
-    let mut k = 0;
-    while i < count {
-        let deadline = deadline_in(i);
+fn read_deadlines(rt: &impl Env, first: usize, count: usize, deadlines: &mut [u32]) -> usize {
+    for (k, i) in (first..count).enumerate() {
+        let deadline = deadline_in(rt, i);
         if !deadline.valid {
             return i;
         }
         keep(deadlines, k, deadline.cycles);
-        i += 1;
-        k += 1;
     }
     0
 }
 
+// Reads until the buffer is full, the input ends or a read fails, and says how many bytes it put at
+// the buffer's start.
+fn read_full(rt: &impl Input, file: &mut [u8]) -> usize
+    ensures { result ≤ length file.new }
+{
+    let mut input = rt.reader();
+    let mut done = 0;
+    while done < file.len() {
+        match input.read(&mut file[done..]) {
+            Ok(0) | Err(_) => return done,
+            Ok(n) => done += n,
+        }
+    }
+    done
+}
+
 // One byte more than a file may have is read, so that a longer input is refused as such.
-fn print_report(deadlines: &[u32], hit_cycles: u32) {
+fn print_report(rt: &(impl Input + Print), deadlines: &[u32], hit_cycles: u32) -> io::Result<()> {
     let mut file = [0u8; 65537];
     let mut text = [0u8; REPORT_BYTES];
-    let length = io::read_full(STDIN_FILENO, &mut file);
+    let length = read_full(rt, &mut file);
     let reported = report(&file[..length], deadlines, &mut text, hit_cycles);
     let end = reported.length;
     if reported.refusal != 0 {
-        tell::refusal(reported.refusal);
+        tell::refusal(rt, reported.refusal)
     } else if end == 0 {
-        tell::misfit(deadlines.len(), reported.traces);
+        tell::misfit(rt, deadlines.len(), reported.traces)
     } else {
-        io::write_all(STDOUT_FILENO, &text[..end]);
+        rt.write_all(&text[..end])
     }
 }
 
 // The report against the deadlines from argument `first` on.
-fn report_from(first: usize, count: usize, hit_cycles: u32) {
+fn report_from(
+    rt: &(impl Env + Input + Print),
+    first: usize,
+    count: usize,
+    hit_cycles: u32,
+) -> io::Result<()> {
     if count <= first {
-        tell::usage();
-        return;
+        return tell::usage(rt);
     }
     let given = count - first;
-    let mut deadlines = [0u32; 16];
-    let none = read_deadlines(first, count, &mut deadlines);
+    let mut deadlines = [0u32; MAX_TRACES];
+    let none = read_deadlines(rt, first, count, &mut deadlines);
     if none != 0 {
-        tell::no_deadline(none);
-        return;
+        return tell::no_deadline(rt, none);
     }
     if given > MAX_TRACES {
-        tell::too_many(given);
-        return;
+        return tell::too_many(rt, given);
     }
-    print_report(&deadlines[..given], hit_cycles);
+    print_report(rt, &deadlines[..given], hit_cycles)
 }
 
-fn main() {
-    let count = os::arg_count();
-    let option = has_option();
-    let hits = hit_cycles_in(option);
+fn main(rt: HostRuntime) -> io::Result<()> {
+    let count = arg_count(&rt);
+    let option = has_option(&rt);
+    let hits = hit_cycles_in(&rt, option);
     if !hits.valid {
-        tell::no_cycles();
-        return;
+        return tell::no_cycles(&rt);
     }
     let first = if option { 3 } else { 1 };
-    report_from(first, count, hits.cycles);
+    report_from(&rt, first, count, hits.cycles)
 }
