@@ -5,12 +5,12 @@ use mathlib.Core.List.{List}
 use mathlib.Core.Path.{◌≡◌, refl, subst, ◌∙◌}
 use native.Mathlib.Nat.{le_antisymm}
 use native.Mathlib.Omega.{arith}
-use borrow.Author.Tests.{lt-leb, le-leb, eq-eqb, ne_eqb, eqb-true}
-use lib.Dec.{leb, eqb}
+use borrow.Author.Tests.{lt-leb, le-leb, ne_eqb, eqb-true}
+use lib.Dec.{leb}
 use Rattle.machine.specs.Test.{none}
 use Rattle.machine.proofs.Connectives.{none_at, none_below, none_fails}
 use Rattle.record.specs.Refusal.{long_hit}
-use Rattle.record.specs.Body.{max_hit_cycles, body_refusal, hit_refusal, timed_refusal}
+use Rattle.record.specs.Body.{max_hit_cycles, hit_refusal, timed_refusal}
 use Rattle.record.proofs.Accepted.{and_true, timed_of}
 use Rattle.record.proofs.Refusals.{then_first, then_second, unless_passed, last_fails, last_passes}
 use Rattle.job.specs.Layout.{traces}

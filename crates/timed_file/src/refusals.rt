@@ -18,12 +18,10 @@ fn file_hit_refusal(file: &[u8], hit_cycles: u32) -> u32
         return LONG_HIT;
     }
     let traces = half(file, 0);
-    let mut t = 0;
-    while t < traces {
+    for t in 0..traces {
         if hit_refusal(body_of(file, t), hit_cycles) != 0 {
             return LONG_HIT;
         }
-        t += 1;
     }
     0
 }
