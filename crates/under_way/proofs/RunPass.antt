@@ -15,7 +15,7 @@ use Rattle.machine.specs.Time.{settle}
 use Rattle.machine.proofs.Window.{Times, slide, window_before, times_from, enter_ID, enter_EX, enter_MEM, enter_last, enter_post, times_at, place_at, all_left_by}
 use Rattle.machine.proofs.WindowPlaces.{window_place}
 use Rattle.machine.proofs.WindowTimes.{window_slides}
-use Rattle.record.specs.Body.{records, trace_of, trace_with}
+use Rattle.record.specs.Body.{records, trace_with}
 use Rattle.record.proofs.Accepted.{and_true}
 use Rattle.places.specs.Inner.{numbered}
 use Rattle.entering.specs.Inner.{window_of}
