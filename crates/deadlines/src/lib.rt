@@ -43,9 +43,8 @@ pub fn deadline_of(word: &[u8]) -> Deadline
         return no_deadline();
     }
     let mut cycles = 0;
-    let mut i = 0;
-    while i < word.len() {
-        let byte = wide(word[i]);
+    for digit in word {
+        let byte = wide(*digit);
         if !is_digit(byte) {
             return no_deadline();
         }
@@ -53,7 +52,6 @@ pub fn deadline_of(word: &[u8]) -> Deadline
         if cycles > MAX_DEADLINE {
             return no_deadline();
         }
-        i += 1;
     }
     Deadline {
         valid: true,
