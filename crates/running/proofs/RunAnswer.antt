@@ -15,7 +15,7 @@ use Rattle.machine.specs.declared.State.{State}
 use Rattle.machine.proofs.Numbers.{Tri, less, equal, more, tri}
 use Rattle.machine.proofs.Finish.{all_left_is}
 use Rattle.machine.proofs.RunStates.{state_after, run_stops_state}
-use Rattle.record.specs.Body.{Bytes, trace_of, trace_with, settled_refusal}
+use Rattle.record.specs.Body.{Bytes, trace_with, settled_refusal}
 use Rattle.settling.proofs.Settled.{settled_timed}
 use Rattle.record.proofs.Accepted.{settled_known}
 use Rattle.running.specs.Run.{ran_for, run_answer}
