@@ -1,6 +1,6 @@
 /* The timing engine of the strictly in-order core, for C and C++.
  *
- * Link target/staticlib/libsic.a, which `rt staticlib sic` proves and writes (x86-64 Linux).
+ * Link target/staticlib/libsic.a, which `tools/library` proves and writes (x86-64 Linux).
  *
  * What the caller ensures. No call can test it, the proofs take it for granted, and where it does not hold
  * anything may happen. (In Rust the compiler sees to it.)
