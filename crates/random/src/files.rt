@@ -184,10 +184,8 @@ pub fn damaged(file: File, d: Dice) -> File {
 
 fn padded(body: [u8; 120]) -> [u8; 160] {
     let mut bytes = [0u8; 160];
-    let mut i = 0;
-    while i < 120 {
+    for i in 0..120 {
         bytes[i] = body[i];
-        i += 1;
     }
     bytes
 }

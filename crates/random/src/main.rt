@@ -11,9 +11,9 @@ mod times;
 mod turns;
 
 use files::long_ones_agree;
-use libc::STDOUT_FILENO;
 use print::print;
 use random_traces::{Dice, Draft, SEED, Style, hits_from, part, rolled, trace};
+use std::io;
 use tally::{Tally, more, nothing};
 use turns::{
     declined, declined_turn, file_turn, long_turn, refusal_turn, settled_turn, unknown_turn,
@@ -72,25 +72,21 @@ fn all_turns() -> Tally {
     let dice = Dice { state: SEED };
     let tally = nothing();
     let mut t = Turn { dice, tally };
-    let mut k = 0;
-    while k < TRACES {
+    for k in 0..TRACES {
         t = one_more(t, k);
         if t.tally.wrong != 0 {
             let differing = t.tally;
             return differing;
         }
-        k += 1;
     }
     let all = t.tally;
     all
 }
 
-fn main() {
-    print(all_turns());
+fn main(rt: HostRuntime) -> io::Result<()> {
+    print(&rt, all_turns())?;
     if long_ones_agree() {
-        io::write_all(
-            STDOUT_FILENO,
-            b"and on what is too long to open or to write\n",
-        );
+        rt.write_all(b"and on what is too long to open or to write\n")?;
     }
+    Ok(())
 }

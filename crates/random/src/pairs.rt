@@ -58,13 +58,11 @@ fn of_memory(bytes: [u8; 120], i: usize) -> bool {
 pub fn slower(draft: Draft, flags: bool) -> Draft {
     let mut bytes = draft.bytes;
     let mut d = draft.dice;
-    let mut i = 0;
-    while i < 120 {
+    for i in 0..120 {
         d = rolled(d);
         if i / RECORD_SIZE < draft.n {
             bytes[i] = slower_byte(bytes[i], i % RECORD_SIZE, d, flags, of_memory(bytes, i));
         }
-        i += 1;
     }
     Draft {
         bytes,
@@ -94,14 +92,12 @@ fn row_ordered<'a>(
     later_stages: &'a [u8],
     later_counts: &'a [u32],
 ) -> bool {
-    let mut i = 0;
-    while i < n {
+    for i in 0..n {
         let first = model::place_at(stages, counts, i);
         let second = model::place_at(later_stages, later_counts, i);
         if further(second, first) {
             return false;
         }
-        i += 1;
     }
     true
 }
@@ -121,14 +117,12 @@ fn ordered_in(
     let n = model::size(first);
     model::start(first, stages, counts);
     model::start(second, later_stages, later_counts);
-    let mut c = 0;
-    while c < cycles {
+    for _ in 0..cycles {
         if !row_ordered(n, stages, counts, later_stages, later_counts) {
             return false;
         }
         model::cycle(first, stages, counts, hit_cycles);
         model::cycle(second, later_stages, later_counts, hit_cycles);
-        c += 1;
     }
     row_ordered(n, stages, counts, later_stages, later_counts)
 }
@@ -165,11 +159,9 @@ fn added_to(a: Instruction, b: Instruction) -> u64 {
 pub fn added(first: &[u8], second: &[u8]) -> u64 {
     let n = model::size(first);
     let mut sum = 0;
-    let mut i = 0;
-    while i < n {
+    for i in 0..n {
         let a = model::instruction_at(first, i);
         sum = more(sum, added_to(a, model::instruction_at(second, i)));
-        i += 1;
     }
     sum
 }

@@ -71,8 +71,7 @@ fn rows_in(
     model::start(body, stages, counts);
     let mut s = State::start();
     let end = stepped_rows(finish);
-    let mut cycle = 0;
-    while cycle < end {
+    for cycle in 0..end {
         let row = row_agrees(cycle, finish, body, stages, counts, hit_cycles);
         let next = step(body, s, hit_cycles);
         model::cycle(body, stages, counts, hit_cycles);
@@ -83,11 +82,10 @@ fn rows_in(
             };
         }
         s = next.state;
-        cycle += 1;
     }
     Compared {
-        compared: cycle,
-        agree: row_agrees(cycle, finish, body, stages, counts, hit_cycles),
+        compared: end,
+        agree: row_agrees(end, finish, body, stages, counts, hit_cycles),
     }
 }
 

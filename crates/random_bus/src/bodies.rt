@@ -20,11 +20,9 @@ fn kept(flags: u8, d: Dice, i: u32) -> u8
 // Three of four records hit, so that a longer trace has few missed accesses too.
 pub fn sparse(bytes: [u8; 120], d: Dice) -> [u8; 120] {
     let mut b = bytes;
-    let mut i: u32 = 0;
-    while i < RECORDS {
+    for i in 0..RECORDS {
         let at = RECORD_SIZE * i as usize + FLAGS;
         b[at] = kept(b[at], d, i);
-        i += 1;
     }
     b
 }

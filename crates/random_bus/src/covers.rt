@@ -134,14 +134,12 @@ fn all_versions(
 {
     let end = from + how_many(every);
     let mut c = no_version();
-    let mut choice = from;
-    while choice < end {
+    for choice in from..end {
         let left = model_bus::version(body, choice, wait, out);
         if every & (left != 0) {
             return c;
         }
         c = with_version(c, out, body.len(), stages, counts, hit_cycles);
-        choice += 1;
     }
     c
 }

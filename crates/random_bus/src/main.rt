@@ -16,6 +16,7 @@ use calls::{Calls, call_turn, no_calls};
 use covers::{Covers, cover_turn, no_covers};
 use print::print;
 use random_traces::{Dice, Draft, SEED, Style, first, hits_from, length_of, part, rolled, trace};
+use std::io;
 
 const TRACES: u32 = 8000;
 
@@ -81,15 +82,13 @@ fn all_turns() -> Turn {
         calls: no_calls(),
         covers: no_covers(),
     };
-    let mut k: u32 = 0;
-    while k < TRACES {
+    for k in 0..TRACES {
         t = one_more(t, k);
-        k += 1;
     }
     t
 }
 
-fn main() {
+fn main(rt: HostRuntime) -> io::Result<()> {
     let t = all_turns();
-    print(t.calls, t.covers);
+    print(&rt, t.calls, t.covers)
 }

@@ -44,14 +44,12 @@ fn under_way(body: &[u8], s: State) -> u32 {
 // The first rows of a trace without unknown flags.
 pub fn watch(body: &[u8], rows: u32, hit_cycles: u32) -> Busy {
     let mut busy = Busy { rows: 0, most: 0 };
-    let mut cycle: u32 = 0;
-    while cycle < rows {
+    for cycle in 0..rows {
         let found = under_way(body, run(body, cycle, hit_cycles).state);
         busy = Busy {
             rows: one_more_if(busy.rows, found > 0),
             most: greater(busy.most, found),
         };
-        cycle += 1;
     }
     busy
 }

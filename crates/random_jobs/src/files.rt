@@ -54,10 +54,8 @@ fn with_body(records: [u8; 800], at: usize, body: [u8; 120], n: usize) -> [u8; 8
     requires { (at ≤ 640) × (n ≤ 40) }
 {
     let mut all = records;
-    let mut i = 0;
-    while i < n {
+    for i in 0..n {
         all[at + i] = body[i];
-        i += 1;
     }
     all
 }
@@ -104,10 +102,8 @@ fn join_traces(traces: u32, dice: Dice, hit_cycles: u32) -> Joined {
         length: 0,
         dice,
     };
-    let mut k: u32 = 0;
-    while k < traces {
+    for k in 0..traces {
         joined = join_trace(joined, k, hit_cycles);
-        k += 1;
     }
     joined
 }

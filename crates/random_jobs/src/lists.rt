@@ -10,10 +10,8 @@ const FORMER: u32 = 3000000000;
 // A value for each place. No two are the same, so that a value in the wrong place is seen.
 pub fn former_values(d: Dice) -> [u32; 20] {
     let mut values = [0u32; 20];
-    let mut i: u32 = 0;
-    while i < PLACES {
+    for i in 0..PLACES {
         values[i as usize] = FORMER + 65536 * i + part(d, i, 65536);
-        i += 1;
     }
     values
 }
@@ -29,11 +27,9 @@ pub fn lent(places: &mut [u32], n: usize) -> &mut [u32] {
 // How many places, from one on, hold the same in both.
 pub fn same_from(a: [u32; 20], b: [u32; 20], from: u32) -> u32 {
     let mut n: u32 = 0;
-    let mut i = from;
-    while i < PLACES {
+    for i in from..PLACES {
         let at = i as usize;
         n = one_more_if(n, a[at] == b[at]);
-        i += 1;
     }
     n
 }

@@ -14,6 +14,7 @@ use job::table::MAX_TRACES;
 use lists::former_values;
 use print::print;
 use random_traces::{Dice, SEED, first, hits_from, one_more_if, part, rolled};
+use std::io;
 use tally::{Tally, nothing};
 
 const FILES: u32 = 8000;
@@ -70,10 +71,8 @@ fn all_turns() -> Tally {
     let dice = Dice { state: SEED };
     let tally = nothing();
     let mut t = Turn { dice, tally };
-    let mut k: u32 = 0;
-    while k < FILES {
+    for _ in 0..FILES {
         t = one_more(t);
-        k += 1;
     }
     let all = t.tally;
     all
@@ -85,6 +84,6 @@ fn with_long_file(t: Tally) -> Tally {
     call_turn(&file, 0, 3, former_values(Dice { state: SEED }), 16, t)
 }
 
-fn main() {
-    print(with_long_file(all_turns()));
+fn main(rt: HostRuntime) -> io::Result<()> {
+    print(&rt, with_long_file(all_turns()))
 }
