@@ -7,7 +7,7 @@ use Rattle.machine.specs.Time.{max_latency}
 use Rattle.machine.specs.Bus.{counts_fetch, counts_data, accesses, bus_time}
 use Rattle.record.specs.Refusal.{◌then◌, ◌unless◌}
 use Rattle.record.specs.Rules.{instruction_of}
-use Rattle.record.specs.Body.{records, fields_at, trace_of, trace_with, timed_refusal}
+use Rattle.record.specs.Body.{records, fields_at, trace_with, timed_refusal}
 use Rattle.bus.specs.declared.call.TimeOnBus.{TimeOnBus}
 
 -- "15: a counted latency plus d exceeds 65,535"
