@@ -7,24 +7,24 @@ use Rattle.chart_text.specs.Chart.{chart_of}
 use Rattle.chart_text.proofs.Drawn.{short_output_lem, drawn, chart_refused, chart_given}
 use Rattle.chart_text.proofs.chart.draw.Goals as goal
 
-pub returns-then-out_len-lt-CHART_BYTES : goal.returns-then-out_len-lt-CHART_BYTES
-returns-then-out_len-lt-CHART_BYTES c = short_output_lem _ _ c.if-out_len-lt-CHART_BYTES.true
+pub returns-then-out-lt-CHART_BYTES : goal.returns-then-out-lt-CHART_BYTES
+returns-then-out-lt-CHART_BYTES c = short_output_lem _ _ c.if-out-lt-CHART_BYTES.true
 
-pub returns-then-found : goal.returns-then-found
-returns-then-found c =
+pub returns-then-found-ne0 : goal.returns-then-found-ne0
+returns-then-found-ne0 c =
     let file = c.args.file.now in
     let e = (located file 0 _ c.locate-found.ensures).0 in
-    drawn _ _ c.if-out_len-lt-CHART_BYTES.false (ap refusal_text e ∙ sym (chart_refused file (λ z. c.if-found.true (e ∙ z)))) c.draw_refusal.ensures
+    drawn _ _ c.if-out-lt-CHART_BYTES.false (ap refusal_text e ∙ sym (chart_refused file (λ z. c.if-found-ne0.true (e ∙ z)))) c.draw_refusal.ensures
 
 pub draw_body-requires : goal.draw_body-requires
 draw_body-requires c =
     let file = c.args.file.now in
     let at = located file 0 _ c.locate-found.ensures in
-    (ap body_refusal (c.cut.ensures.0 ∙ at.1) ∙ opened_accepted file 0 (sym at.0 ∙ c.if-found.false), c.if-out_len-lt-CHART_BYTES.false)
+    (ap body_refusal (c.cut.ensures.0 ∙ at.1) ∙ opened_accepted file 0 (sym at.0 ∙ c.if-found-ne0.false), c.if-out-lt-CHART_BYTES.false)
 
 pub returns : goal.returns
 returns c =
     let file = c.args.file.now in
     let at = located file 0 _ c.locate-found.ensures in
     let body = ap (λ (body : List ℕ). chart_of (trace_with body 0)) (c.cut.ensures.0 ∙ at.1) in
-    drawn _ _ c.if-out_len-lt-CHART_BYTES.false (body ∙ sym (chart_given file (sym at.0 ∙ c.if-found.false))) c.draw_body.ensures
+    drawn _ _ c.if-out-lt-CHART_BYTES.false (body ∙ sym (chart_given file (sym at.0 ∙ c.if-found-ne0.false))) c.draw_body.ensures
