@@ -54,12 +54,10 @@ pub fn count_accesses(body: &[u8], wait: u16) -> Counted
     let records = count(body);
     let mut accesses = 0;
     let mut too_long = false;
-    let mut k = 0;
-    while k < records {
+    for k in 0..records {
         let read = fields_at(body, k);
         accesses += accesses_of(read.fields);
         too_long = too_long | exceeds(read.fields, wait);
-        k += 1;
     }
     Counted { accesses, too_long }
 }

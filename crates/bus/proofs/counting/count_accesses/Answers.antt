@@ -22,25 +22,11 @@ count-records-requires c = few_records _ c.requires
 
 pub loop-k-init : goal.loop-k-init
 unfolding read_first firsts accesses
-loop-k-init c = (omega arith, refl, omega arith, none_zero _)
+loop-k-init c = (refl, omega arith, none_zero _)
 
 pub overflow_add-accesses : goal.overflow_add-accesses
 overflow_add-accesses c =
-    omega (
-      arith,
-      c.loop-k.invariant.2,
-      c.accesses_of-accesses.ensures.1,
-      c.loop-k-test.true,
-      c.count-records.ensures,
-      few_records _ c.requires,
-    )
-
-pub overflow_add-k : goal.overflow_add-k
-overflow_add-k c =
-    omega (arith, c.loop-k-test.true, c.count-records.ensures, few_records _ c.requires)
-
-pub loop-k-smaller : goal.loop-k-smaller
-loop-k-smaller c = omega (arith, c.loop-k-test.true)
+    omega (arith, c.loop-k.invariant.1, c.accesses_of-accesses.ensures.1, c.count-records.ensures, few_records _ c.requires)
 
 pub loop-k-preserved : goal.loop-k-preserved
 unfolding read_first firsts exceeds_at
@@ -48,14 +34,13 @@ loop-k-preserved c =
     let body = c.args.body.now in
     let wait = c.args.wait in
     let k = c.loop-k.k in
-    let inside = subst (λ (n : ℕ). k < n) c.count-records.ensures c.loop-k-test.true in
+    let inside : k < records body = omega (arith, c.count-records.ensures) in
     let here = read_fields body k inside c.fields_at-read.ensures in (
-      omega (arith, c.loop-k-test.true),
-      ap₂ (λ (a b : ℕ). a + b) c.loop-k.invariant.1 (c.accesses_of-accesses.ensures.0 ∙ ap (λ (f : Fields). accesses_of (instruction_of f)) here)
+      ap₂ (λ (a b : ℕ). a + b) c.loop-k.invariant.0 (c.accesses_of-accesses.ensures.0 ∙ ap (λ (f : Fields). accesses_of (instruction_of f)) here)
           ∙ sym (accesses_more (read_first body k) (instruction_of (fields_at body k)))
           ∙ ap (λ (n : ℕ). accesses (read_first body n)) (sym (add-one k)),
-      omega (arith, c.loop-k.invariant.2, c.accesses_of-accesses.ensures.1),
-      none_joined (exceeds_at body wait) k c.loop-k.too_long c.exceeds-too_long.result c.loop-k.invariant.3 (c.exceeds-too_long.ensures ∙ ap (λ (f : Fields). exceeds wait (instruction_of f)) here),
+      omega (arith, c.loop-k.invariant.1, c.accesses_of-accesses.ensures.1),
+      none_joined (exceeds_at body wait) k c.loop-k.too_long c.exceeds-too_long.result c.loop-k.invariant.2 (c.exceeds-too_long.ensures ∙ ap (λ (f : Fields). exceeds wait (instruction_of f)) here),
     )
 
 pub returns : goal.returns
@@ -63,9 +48,8 @@ unfolding read_first trace_of
 returns c =
     let body = c.args.body.now in
     let wait = c.args.wait in
-    let end : c.loop-k.k ≡ records body =
-    omega (arith, c.loop-k-test.false, c.loop-k.invariant.0, c.count-records.ensures) in
+    let end : c.loop-k.k ≡ records body = omega (arith, c.count-records.ensures) in
     record {
-      accesses = c.loop-k.invariant.1 ∙ ap (λ (n : ℕ). accesses (read_first body n)) end;
-      too_long = subst (λ (n : ℕ). none (exceeds_at body wait) n ≡ not c.loop-k.too_long) end c.loop-k.invariant.3;
+      accesses = c.loop-k.invariant.0 ∙ ap (λ (n : ℕ). accesses (read_first body n)) end;
+      too_long = subst (λ (n : ℕ). none (exceeds_at body wait) n ≡ not c.loop-k.too_long) end c.loop-k.invariant.2;
     }
