@@ -8,8 +8,8 @@ use Rattle.report_figures.specs.Figures.{is_unknown, unknown_flags}
 use Rattle.report_figures.proofs.Flags.{unknown_more}
 use Rattle.report_figures.proofs.unknown_flags.Goals as goal
 
-pub count-requires : goal.count-requires
-count-requires c = few_records _ c.requires
+pub count-records-requires : goal.count-records-requires
+count-records-requires c = few_records _ c.requires
 
 pub loop-k-init : goal.loop-k-init
 unfolding read_first firsts unknown_flags
@@ -32,7 +32,7 @@ loop-k-preserved c =
     (λ (f : Fields). is_unknown (flag_of f.fetch) + is_unknown (flag_of f.access))
     (read_fields body k inside c.fields_at-read.ensures) in (
       omega arith,
-      ap₂ (λ (a b : ℕ). a + b) c.loop-k.invariant.1 (c.unknowns_of.ensures.0 ∙ here)
+      ap₂ (λ (a b : ℕ). a + b) c.loop-k.invariant.1 (c.unknowns_of-unknown.ensures.0 ∙ here)
           ∙ sym (unknown_more (read_first body k) (instruction_of (fields_at body k)))
           ∙ ap (λ (n : ℕ). unknown_flags (read_first body n)) (sym (add-one k)),
       omega arith,
