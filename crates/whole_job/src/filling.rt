@@ -29,9 +29,7 @@ pub fn put_times(file: &[u8], times: &mut [u32], all: u32, hit_cycles: u32)
     requires { (timed_file_refusal file.now hit_cycles ≡ 0) × (all ≡ traces file.now) × (all ≤ length times.old) }
     ensures { times.new ≡ firsts (timed_alone file.now hit_cycles) all ++ drop all times.old }
 {
-    let mut t = 0;
-    while t < all {
+    for t in 0..all {
         put_time(times, t, worst_time_at(file, t, hit_cycles));
-        t += 1;
     }
 }
