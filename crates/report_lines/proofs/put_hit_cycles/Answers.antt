@@ -1,5 +1,5 @@
 -- nothing for 0, else the line
-use Rattle.std.proofs.Common.{◌≡◌, ℕ, zero, suc, List, [], ◌∷◌, ◌++◌, refl, arith}
+use Rattle.std.proofs.Common.{◌≡◌, ℕ, zero, suc, [], ◌∷◌, ◌++◌, refl, arith}
 use Rattle.text.specs.Text.{space, newline, decimal}
 use Rattle.text.proofs.Pieces.{wrote_nothing, wrote_then, as_text, decimal_short}
 use Rattle.report_lines.specs.Lines.{hit_text}
