@@ -1,21 +1,15 @@
 -- 17 of bodies that are made of others: it asks for kinds and data latencies alone, so that it declines no settling of a body that it lets pass, and no
 -- such settling with waits. And which traces the claims of the machine speak of.
-use Prim.Native.Nat.{ℕ, ◌≤◌, ◌<◌}
-use mathlib.Core.Bool.{true}
+use Prim.Native.Nat.{ℕ, ◌<◌}
 use mathlib.Core.List.{List}
-use mathlib.Core.Path.{◌≡◌, sym, ap, subst, ◌∙◌}
-use native.Mathlib.Omega.{arith}
-use lib.ListN.{length}
-use Rattle.machine.specs.Instruction.{Kind, Instruction, Trace, instruction}
+use mathlib.Core.Path.{◌≡◌, ap, subst, ◌∙◌}
+use Rattle.machine.specs.Instruction.{Instruction, Trace}
 use Rattle.machine.specs.Rules.{has_access}
 use Rattle.machine.specs.Time.{Settling, Delayed}
 use Rattle.machine.specs.Hits.{HitsTake}
-use Rattle.machine.proofs.Hits.{hit_at, hits_settle, hits_delayed, settling_hits, delayed_hits, length_hits, instruction_hits}
-use Rattle.machine.proofs.Settled.{settling_length}
-use Rattle.machine.proofs.Delays.{delayed_length}
-use Rattle.record.specs.Body.{records, trace_of, trace_with, hit_refusal, timed_refusal, settled_refusal}
+use Rattle.machine.proofs.Hits.{hit_at, hits_settle, hits_delayed, settling_hits, delayed_hits, instruction_hits}
+use Rattle.record.specs.Body.{trace_of, trace_with, hit_refusal, timed_refusal, settled_refusal}
 use Rattle.record.proofs.Accepted.{hits_of, few_cycles, body_hits, timed_hits, settled_timed}
-use Rattle.record.proofs.Instructions.{length_trace_of}
 use Rattle.claims.specs.Claim.{Passes}
 
 module _ {h : ℕ} {body : List ℕ} where

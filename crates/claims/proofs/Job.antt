@@ -1,5 +1,5 @@
 -- The number in each place of a job's list is Best and worst's answer to a body that is accepted, of which demand 3 speaks.
-use Prim.Native.Nat.{ℕ, ◌<◌, ◌≤◌}
+use Prim.Native.Nat.{ℕ, ◌<◌}
 use mathlib.Core.List.{List}
 use mathlib.Core.Path.{◌≡◌, sym, subst, ◌∙◌}
 use lib.ListN.{length, get_or}

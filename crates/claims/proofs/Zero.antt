@@ -1,7 +1,7 @@
 -- With h = 0 a body is refused, and its instructions stand and finish, as without h.
 use Prim.Native.Nat.{ℕ, zero-le, ◌<◌}
 use mathlib.Core.List.{List}
-use mathlib.Core.Path.{◌≡◌, refl, sym, ap, subst, ◌∙◌}
+use mathlib.Core.Path.{◌≡◌, sym, ap, subst, ◌∙◌}
 use native.Mathlib.Decide.{ℕ_discrete}
 use Rattle.machine.specs.Instruction.{Flag, Trace}
 use Rattle.machine.specs.Time.{finish, settle, best, worst}
