@@ -90,23 +90,23 @@ module _ (hits : ℕ) (body : List ℕ) (wait : ℕ) (p : Passes (λ bytes. bus_
 
     version_covered : EmbodiedVersion hits body wait trace
     version_covered =
-        let is_IsBody = delayed_are_bodies body p.bytes accepted settling trace wait h d fit in
+        let is_body = delayed_are_bodies body p.bytes accepted settling trace wait h d fit in
         record {
           encoding = body_of trace;
           is_version =
               record {
                 passes =
                     record {
-                      bytes = is_IsBody.0;
+                      bytes = is_body.0;
                       passes =
-                          settled_of (body_of trace) hits is_IsBody.1
-                          (version_passes hits body (passed_hits (timed hits body wait p)) settling wait (body_of trace) h (subst (Delayed wait settling) (sym is_IsBody.2) d));
+                          settled_of (body_of trace) hits is_body.1
+                          (version_passes hits body (passed_hits (timed hits body wait p)) settling wait (body_of trace) h (subst (Delayed wait settling) (sym is_body.2) d));
                     };
                 settling = settling;
                 settles = h;
-                delays = subst (Delayed wait settling) (sym is_IsBody.2) d;
+                delays = subst (Delayed wait settling) (sym is_body.2) d;
               };
-          decodes = is_IsBody.2;
+          decodes = is_body.2;
         }
 
 pub time_holds : TimeHolds

@@ -129,11 +129,11 @@ module _ (h : ℕ) where
 
   settlings_covered : SettlingsCovered h
   settlings_covered body p settling s =
-      let is_IsBody = settlings_are_bodies body p.bytes (timed_accepted body h p.passes) settling s in
+      let is_body = settlings_are_bodies body p.bytes (timed_accepted body h p.passes) settling s in
       record {
         encoding = body_of settling;
-        settles = settled_passes body (body_of settling) p is_IsBody.0 is_IsBody.1 (subst (Settling (trace_of body)) (sym is_IsBody.2) s);
-        decodes = is_IsBody.2;
+        settles = settled_passes body (body_of settling) p is_body.0 is_body.1 (subst (Settling (trace_of body)) (sym is_body.2) s);
+        decodes = is_body.2;
       }
 
 pub demand_3 : Demand3

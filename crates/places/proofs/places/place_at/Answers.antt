@@ -1,4 +1,4 @@
--- `place_at_lem` meets its contract: in each case the tests on the way choose the definition's place.
+-- `place_at` meets its contract: in each case the tests on the way choose the definition's place.
 use Rattle.machine.specs.Rules.{entry}
 use Rattle.machine.specs.Hits.{with_hit}
 use Rattle.record.specs.Rules.{instruction_of}
