@@ -36,7 +36,7 @@ loop-t-preserved c =
     let i = c.loop-t.invariant in
     let line = c.line_at-line.ensures in (
       omega arith,
-      ap₂ (λ (m n : ℕ). m + n) i.1 (c.met_by.ensures.0 ∙ ap met line) ∙ ap (met_below file deadlines a.hit_cycles) (sym (add-one t)),
+      ap₂ (λ (m n : ℕ). m + n) i.1 (c.met_by-met.ensures.0 ∙ ap met line) ∙ ap (met_below file deadlines a.hit_cycles) (sym (add-one t)),
       omega arith,
       omega arith,
       as_text _ _ (ap (lines_text file deadlines a.hit_cycles) (sym (add-one t)))

@@ -5,8 +5,8 @@ use Rattle.report_text.proofs.Fits.{few_traces}
 use Rattle.report_text.proofs.Given.{refused, unserved, cramped, reported}
 use Rattle.report_text.proofs.whole.report.Goals as goal
 
-pub returns-then-refusal : goal.returns-then-refusal
-returns-then-refusal c = refused _ _ _ _ c.timed_file_refusal-refusal.ensures (λ z. omega arith)
+pub returns-then-refusal-ne0 : goal.returns-then-refusal-ne0
+returns-then-refusal-ne0 c = refused _ _ _ _ c.timed_file_refusal-refusal.ensures (λ z. omega arith)
 
 pub returns-then-not-serve : goal.returns-then-not-serve
 returns-then-not-serve c =
@@ -15,8 +15,8 @@ returns-then-not-serve c =
     unserved a.file.now a.deadlines.now a.out.now a.hit_cycles accepted c.half-all.ensures.0
     (sym c.serve.ensures ∙ c.if-not-serve.true)
 
-pub returns-then-out_len-lt-REPORT_BYTES : goal.returns-then-out_len-lt-REPORT_BYTES
-returns-then-out_len-lt-REPORT_BYTES c =
+pub returns-then-out-lt-REPORT_BYTES : goal.returns-then-out-lt-REPORT_BYTES
+returns-then-out-lt-REPORT_BYTES c =
     let a = c.args in
     let accepted : timed_file_refusal a.file.now a.hit_cycles ≡ 0 = omega arith in
     cramped a.file.now a.deadlines.now a.out.now a.hit_cycles accepted c.half-all.ensures.0

@@ -1,3 +1,4 @@
+-- One deadline serves all traces, or one each.
 use Rattle.std.proofs.Common.{rules}
 use Rattle.machine.specs.Test.{◌or◌}
 use Rattle.report_text.specs.Report.{serves}
