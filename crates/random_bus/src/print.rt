@@ -22,7 +22,8 @@ pub fn print(rt: &impl Print, calls: Calls, covers: Covers) -> io::Result<()> {
     count(rt, calls.hits, b" of them 17\n")?;
     count(rt, calls.latencies, b" of them 15\n")?;
     count(
-        rt, calls.within,
+        rt,
+        calls.within,
         b" that would be 15 for a wait of one cycle more\n",
     )?;
     count(rt, calls.with_hits, b" times with h above 0\n")?;
