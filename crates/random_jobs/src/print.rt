@@ -34,7 +34,8 @@ fn places(rt: &impl Print, t: Tally) -> io::Result<()> {
     count(rt, t.times, b" times, ")?;
     count(rt, t.kept, b" other places kept their values\n")?;
     count(
-        rt, t.unaltered,
+        rt,
+        t.unaltered,
         b" places kept their values where a call was declined\n",
     )?;
     count(rt, t.wrong, b" lists are not as they have to be\n")
