@@ -28,6 +28,7 @@ pub fn narrow(n: usize) -> u32 {
 // Where the byte stands first, from an index on, or the length where it does not.
 pub fn find(s: &[u8], from: usize, byte: u8) -> usize
     ensures within { result ≤ length s.now }
+    ensures behind { from ≤ length s.now → from ≤ result }
     ensures before { (k : ℕ) → from ≤ k → k < result → slice_index s.now k ≢ byte }
     ensures found { result < length s.now → slice_index s.now result ≡ byte }
 {
