@@ -16,8 +16,7 @@ mod trace;
 pub use body::{MOST_HIT_CYCLES, body_refusal, hit_refusal, settled_refusal, timed_refusal};
 pub use job::{Opened, open, open_refusal, write_refusal};
 pub use places::{
-    EX, ID, IF, MEM, POST, PRE, Place, ST, Slot, WB, all_left, fetched, in_stage, place_at,
-    start,
+    EX, ID, IF, MEM, POST, PRE, Place, ST, Slot, WB, all_left, fetched, in_stage, place_at, start,
 };
 pub use rules::cycle;
 pub use runs::{Ran, bound, finish, finish_in, run};

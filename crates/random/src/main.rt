@@ -5,19 +5,19 @@ mod files;
 mod pairs;
 mod print;
 mod refusals;
+mod rounds;
 mod rows;
 mod tally;
 mod times;
-mod turns;
 
 use files::long_ones_agree;
 use print::print;
 use random_traces::{Dice, Draft, SEED, Style, hits_from, part, rolled, trace};
-use std::io;
-use tally::{Tally, more, nothing};
-use turns::{
+use rounds::{
     declined, declined_turn, file_turn, long_turn, refusal_turn, settled_turn, unknown_turn,
 };
+use std::io;
+use tally::{Tally, more, nothing};
 
 const TRACES: u64 = 40000;
 
