@@ -18,9 +18,10 @@ mod lines;
 mod second;
 mod writing;
 
-ghost use Rattle.std.specs.Prelude.{◌≡◌, ◌≤◌, length, IfOk};
+ghost use Rattle.std.specs.Prelude.{◌≡◌, length};
 
-use std::io::{self, Read};
+use reading::read_full;
+use std::io;
 
 // Room for all lines, for the bytes of a case and those beside them, or for an output, and what that holds
 // before. The contract gives only the length: what the array holds would be carried along at a cost.
@@ -30,25 +31,9 @@ fn room() -> [u8; 900000]
     [165; 900000]
 }
 
-// Reads until the room is full or the input ends, and says how many bytes it put at the room's start.
-fn read_full(rt: &impl Input, into: &mut [u8]) -> io::Result<usize>
-    ensures { IfOk result (λ n. n ≤ length into.new) }
-{
-    let mut input = rt.reader();
-    let mut done = 0;
-    while done < into.len() {
-        let n = input.read(&mut into[done..])?;
-        if n == 0 {
-            return Ok(done);
-        }
-        done += n;
-    }
-    Ok(done)
-}
-
 fn main(rt: HostRuntime) -> io::Result<()> {
     let mut data = room();
     let mut bytes = room();
-    let n = read_full(&rt, &mut data)?;
+    let n = read_full(&mut rt.reader(), &mut data);
     lines::each_line(&mut io::writer(&rt), &data[..n], &mut bytes)
 }

@@ -5,40 +5,10 @@
 ghost use Rattle.std.specs.Prelude.{◌≤◌, length};
 
 use chart_text::{CHART_BYTES, draw};
-use std::env::FillError;
+use reading::{WORD_BYTES, arg_count, read_full};
 use std::fs::File;
 use std::io;
-use std::io::Read;
 use std::rt::{Env, Files};
-
-// The most bytes of an argument that is read.
-const WORD_BYTES: usize = 4096;
-
-// How many arguments there are, the program's name among them.
-fn arg_count(rt: &impl Env) -> usize {
-    let mut word = [0u8; WORD_BYTES];
-    for i in 0..usize::MAX {
-        if matches!(rt.arg(i, &mut word), Err(FillError::NotPresent)) {
-            return i;
-        }
-    }
-    usize::MAX
-}
-
-// Reads until the buffer is full, the input ends or a read fails, and says how many bytes it put at
-// the buffer's start.
-fn read_full(input: &mut impl Read, into: &mut [u8]) -> usize
-    ensures { result ≤ length into.new }
-{
-    let mut done = 0;
-    while done < into.len() {
-        match input.read(&mut into[done..]) {
-            Ok(0) | Err(_) => return done,
-            Ok(n) => done += n,
-        }
-    }
-    done
-}
 
 // Reads the file that argument i names to the start of `into`, and gives its length.
 fn read_named(rt: &(impl Env + Files), i: usize, into: &mut [u8]) -> usize

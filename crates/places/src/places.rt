@@ -1,6 +1,7 @@
 // Where an instruction stands after a number of cycles, from its times.
 ghost use Rattle.std.specs.Prelude.{◌≡◌};
-ghost use Rattle.machine.specs.Rules.{MEM, stage_number, next};
+ghost use Rattle.machine.specs.Rules as Rules;
+ghost use Rattle.machine.specs.Rules.{stage_number, next};
 ghost use Rattle.machine.specs.Hits.{with_hit};
 ghost use Rattle.machine.proofs.Window.{place_at};
 ghost use Rattle.record.specs.Rules.{instruction_of};
@@ -10,7 +11,7 @@ ghost use Rattle.places.specs.Inner.{numbered};
 use decode::{count_in_if, count_in_last, count_in_mem, kind, less};
 use following::next;
 use machine::Stage;
-use machine::stage::{self, EX, ID, IF, POST, PRE, number};
+use machine::stage::{EX, ID, IF, MEM, POST, PRE, number};
 use record::Fields;
 use schedule::Times;
 
@@ -24,7 +25,7 @@ pub struct Place {
 
 // The number of the stage after MEM.
 fn last_stage(f: Fields) -> u32
-    ensures { result ≡ stage_number (next (instruction_of f).kind MEM) }
+    ensures { result ≡ stage_number (next (instruction_of f).kind Rules.MEM) }
 {
     number(next(kind(f), Stage::MEM))
 }
@@ -58,7 +59,7 @@ pub fn place_at(f: Fields, e: Times, t: u32, hit_cycles: u32) -> Place
     }
     if t < e.last {
         return Place {
-            stage: stage::MEM,
+            stage: MEM,
             count: less(count_in_mem(f, hit_cycles), t - e.MEM),
         };
     }

@@ -5,19 +5,13 @@
 
 mod tell;
 
-ghost use Rattle.std.specs.Prelude.{◌≡◌, ◌≤◌, length};
-
 use deadlines::{Deadline, deadline_of};
+use reading::{WORD_BYTES, arg_count, read_full};
 use report_text::{REPORT_BYTES, report};
-use std::env::FillError;
 use std::io;
-use std::io::Read;
 use std::rt::Env;
 
 const MAX_TRACES: usize = 16;
-
-// The most bytes of an argument that is read.
-const WORD_BYTES: usize = 4096;
 
 // A word that is longer than the buffer is no deadline.
 fn deadline_in(rt: &impl Env, i: usize) -> Deadline {
@@ -29,17 +23,6 @@ fn deadline_in(rt: &impl Env, i: usize) -> Deadline {
             cycles: 0,
         },
     }
-}
-
-// How many arguments there are, the program's name among them.
-fn arg_count(rt: &impl Env) -> usize {
-    let mut word = [0u8; WORD_BYTES];
-    for i in 0..usize::MAX {
-        if matches!(rt.arg(i, &mut word), Err(FillError::NotPresent)) {
-            return i;
-        }
-    }
-    usize::MAX
 }
 
 fn keep(deadlines: &mut [u32], i: usize, cycles: u32) {
@@ -83,27 +66,11 @@ fn read_deadlines(rt: &impl Env, first: usize, count: usize, deadlines: &mut [u3
     0
 }
 
-// Reads until the buffer is full, the input ends or a read fails, and says how many bytes it put at
-// the buffer's start.
-fn read_full(rt: &impl Input, file: &mut [u8]) -> usize
-    ensures { result ≤ length file.new }
-{
-    let mut input = rt.reader();
-    let mut done = 0;
-    while done < file.len() {
-        match input.read(&mut file[done..]) {
-            Ok(0) | Err(_) => return done,
-            Ok(n) => done += n,
-        }
-    }
-    done
-}
-
 // One byte more than a file may have is read, so that a longer input is refused as such.
 fn print_report(rt: &(impl Input + Print), deadlines: &[u32], hit_cycles: u32) -> io::Result<()> {
     let mut file = [0u8; 65537];
     let mut text = [0u8; REPORT_BYTES];
-    let length = read_full(rt, &mut file);
+    let length = read_full(&mut rt.reader(), &mut file);
     let reported = report(&file[..length], deadlines, &mut text, hit_cycles);
     let end = reported.length;
     if reported.refusal != 0 {
