@@ -2,8 +2,9 @@
 // breaks its rules, 17 a data hit that takes too long, 11 an unknown flag.
 #![tactic(auto)]
 
-ghost use Rattle.std.specs.Prelude.{◌≡◌};
-ghost use Rattle.record.specs.Refusal.{◌then◌};
+ghost use Rattle.std.specs.Prelude.{◌≡◌, not, OnOk, IfOk};
+ghost use Rattle.record.specs.Refusal.{◌unless◌, unknown_flag};
+ghost use Rattle.record.specs.Number.{refusal_in};
 ghost use Rattle.record.specs.Body.{
   length_refusal,
   record_refusal,
@@ -16,7 +17,7 @@ ghost use Rattle.record.specs.Body.{
 
 use machine::State;
 use record::layout::RECORD_SIZE;
-use record::refusal::{BROKEN_RECORD, LONG_HIT, UNKNOWN_FLAG, WRONG_LENGTH};
+use record::{Refusal, records};
 use record_rules::{breaks_rules, not_above_from, unknown_from};
 
 // The most records that a body holds.
@@ -25,104 +26,95 @@ const MAX_RECORDS: usize = State::MAX_INSTRUCTIONS as usize;
 // The most cycles that a data hit takes.
 pub const MAX_HIT_CYCLES: u32 = 15;
 
-pub fn length_refusal(body: &[u8]) -> u32
-    ensures { result ≡ length_refusal body.now }
+pub fn check_length(body: &[u8]) -> Result<(), Refusal>
+    ensures { refusal_in result ≡ length_refusal body.now }
 {
     if body.len() % RECORD_SIZE != 0 {
-        return WRONG_LENGTH;
+        return Err(Refusal::WrongLength);
     }
     if body.len() / RECORD_SIZE > MAX_RECORDS {
-        return WRONG_LENGTH;
+        return Err(Refusal::WrongLength);
     }
-    0
+    Ok(())
 }
 
-// 8, then 11, in one pass: an unknown flag counts only where no record breaks its rules.
-fn known_refusal(body: &[u8]) -> u32
-    ensures { result ≡ (record_refusal body.now then unknown_refusal body.now) }
+// 8, and whether a flag is unknown, in one pass: an unknown flag counts only where no record breaks
+// its rules.
+fn scan_records(body: &[u8]) -> Result<bool, Refusal>
+    ensures broken { refusal_in result ≡ record_refusal body.now }
+    ensures unknown { IfOk result (λ unknown. (unknown_flag unless not unknown) ≡ unknown_refusal body.now) }
 {
-    let records = body.len() / RECORD_SIZE;
     let mut unknown = false;
-    for k in 0..records {
-        if breaks_rules(body, k * RECORD_SIZE) {
-            return BROKEN_RECORD;
+    for record in records(body) {
+        if breaks_rules(record) {
+            return Err(Refusal::BrokenRecord);
         }
-        unknown = unknown | unknown_from(body, k * RECORD_SIZE);
+        unknown |= unknown_from(record);
     }
-    if unknown {
-        return UNKNOWN_FLAG;
-    }
-    0
+    Ok(unknown)
 }
 
 // 8 only, by the same pass: an unknown flag is not refused here.
-pub fn record_refusal(body: &[u8]) -> u32
-    ensures { result ≡ record_refusal body.now }
+pub fn check_records(body: &[u8]) -> Result<(), Refusal>
+    ensures { refusal_in result ≡ record_refusal body.now }
 {
-    if known_refusal(body) == BROKEN_RECORD {
-        return BROKEN_RECORD;
-    }
-    0
+    scan_records(body)?;
+    Ok(())
+}
+
+// The same after 10.
+fn scan_body(body: &[u8]) -> Result<bool, Refusal>
+    ensures broken { refusal_in result ≡ body_refusal body.now }
+    ensures unknown { IfOk result (λ unknown. (unknown_flag unless not unknown) ≡ unknown_refusal body.now) }
+{
+    check_length(body)?;
+    scan_records(body)
 }
 
 // 17 only, of a body whose records keep their rules: a hit that takes no cycles is shorter than every
 // data latency, so that no record need be read for it.
-pub fn hit_refusal(body: &[u8], hit_cycles: u32) -> u32
+pub fn check_hits(body: &[u8], hit_cycles: u32) -> Result<(), Refusal>
     requires { body_refusal body.now ≡ 0 }
-    ensures { result ≡ hit_refusal body.now hit_cycles }
+    ensures { refusal_in result ≡ hit_refusal body.now hit_cycles }
 {
     if hit_cycles > MAX_HIT_CYCLES {
-        return LONG_HIT;
+        return Err(Refusal::LongHit);
     }
     if hit_cycles == 0 {
-        return 0;
+        return Ok(());
     }
-    let all = body.len() / RECORD_SIZE;
-    for k in 0..all {
-        if not_above_from(body, k * RECORD_SIZE, hit_cycles) {
-            return LONG_HIT;
+    for record in records(body) {
+        if not_above_from(record, hit_cycles) {
+            return Err(Refusal::LongHit);
         }
     }
-    0
+    Ok(())
 }
 
 // 10, then 8.
-pub fn body_refusal(body: &[u8]) -> u32
-    ensures { result ≡ body_refusal body.now }
+pub fn check_body(body: &[u8]) -> Result<(), Refusal>
+    ensures { refusal_in result ≡ body_refusal body.now }
 {
-    let length = length_refusal(body);
-    if length != 0 {
-        return length;
-    }
-    record_refusal(body)
+    scan_body(body)?;
+    Ok(())
 }
 
 // 10, then 8, then 17.
-pub fn timed_refusal(body: &[u8], hit_cycles: u32) -> u32
-    ensures { result ≡ timed_refusal body.now hit_cycles }
+pub fn check_timed(body: &[u8], hit_cycles: u32) -> Result<(), Refusal>
+    ensures { refusal_in result ≡ timed_refusal body.now hit_cycles }
 {
-    let refused = body_refusal(body);
-    if refused != 0 {
-        return refused;
-    }
-    hit_refusal(body, hit_cycles)
+    check_body(body)?;
+    check_hits(body, hit_cycles)
 }
 
 // 10, then 8, then 17, then 11. One pass finds 8 and 11; its 11 waits until 17 is judged.
-pub fn settled_refusal(body: &[u8], hit_cycles: u32) -> u32
-    ensures { result ≡ settled_refusal body.now hit_cycles }
+pub fn check_settled(body: &[u8], hit_cycles: u32) -> Result<(), Refusal>
+    ensures { refusal_in result ≡ settled_refusal body.now hit_cycles }
 {
-    let fault = length_refusal(body);
-    if fault != 0 {
-        return fault;
+    let unknown = scan_body(body)?;
+    check_hits(body, hit_cycles)?;
+    if unknown {
+        return Err(Refusal::UnknownFlag);
     }
-    let known = known_refusal(body);
-    if known == BROKEN_RECORD {
-        return BROKEN_RECORD;
-    }
-    let long = hit_refusal(body, hit_cycles);
-    if long != 0 {
-        return long;
-    }
-    known
+    Ok(())
 }

@@ -1,7 +1,7 @@
 -- What the call gives is its answer: on a refusal, and with the count and the worst time that the passes give; and that time fits 32 bits.
 use Prim.Native.Nat.{ℕ, ◌+◌, ◌*◌, ◌≤◌}
 use mathlib.Core.List.{List}
-use mathlib.Core.Path.{◌≡◌, refl, sym, ◌∙◌}
+use mathlib.Core.Path.{◌≡◌, refl, ◌∙◌}
 use native.Mathlib.Nat.{mul-le-mul}
 use native.Mathlib.Omega.{arith}
 use borrow.Author.Tests.{eq-eqb, ne_eqb, eqb-true}
@@ -11,15 +11,14 @@ use Rattle.machine.specs.State.{max_instructions}
 use Rattle.machine.specs.Time.{finish, settle, worst}
 use Rattle.machine.specs.Bus.{accesses, bus_time}
 use Rattle.machine.proofs.Connectives.{Value, passed, failed, value}
-use Rattle.record.specs.Rules.{flag_of}
-use Rattle.record.specs.Body.{Bytes, trace_of, trace_with, body_refusal, timed_refusal}
+use Rattle.record.specs.Body.{Bytes, trace_of, trace_with, timed_refusal}
 use Rattle.record.proofs.Accepted.{few_records, timed_accepted}
 use Rattle.record.proofs.Instructions.{length_trace_of}
 use Rattle.record.proofs.Refusals.{then_first}
 use Rattle.schedule.proofs.Accepted.{finish_within}
 use Rattle.bus.specs.Answers.{bus_refusal, bus_answer}
 use Rattle.bus.specs.Claims.{max_wait, max_bus_time, TimeFits}
-use Rattle.bus.specs.declared.call.TimeOnBus.{TimeOnBus}
+use Rattle.bus.specs.declared.answer.TimeOnBus.{TimeOnBus}
 use Rattle.bus.proofs.Added.{accesses_few, accesses_hits}
 
 module _ (body : List ℕ) (wait h : ℕ) where
@@ -31,14 +30,10 @@ module _ (body : List ℕ) (wait h : ℕ) where
       bus_refusal body wait h ≡ 0 →
       {n w : ℕ} →
       n ≡ accesses (trace_of body) →
-      w ≡ finish (settle (flag_of 1) (trace_with body h)) →
+      w ≡ finish (settle miss (trace_with body h)) →
       ◌≡◌ {A = TimeOnBus} (record { refusal = 0; accesses = n; time = w + n * wait }) (bus_answer body wait h)
-  unfolding bus_answer bus_time worst flag_of
+  unfolding bus_answer bus_time worst
   given z p q = rw (p, q, eq-eqb (bus_refusal body wait h) 0 z, accesses_hits h (trace_of body))
-
--- the accesses are counted of a body that none of 10, 8 and 17 declines
-pub accepted_by : (body : List ℕ) (h r : ℕ) → r ≡ timed_refusal body h → r ≡ 0 → body_refusal body ≡ 0
-accepted_by body h r e z = timed_accepted body h (sym e ∙ z)
 
 -- the time of an accepted body is within the greatest
 pub sum_fits : (body : List ℕ) (h : ℕ) → Bytes body → timed_refusal body h ≡ 0 → (wait : ℕ) → wait ≤ max_wait → {n w : ℕ} →

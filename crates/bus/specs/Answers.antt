@@ -1,6 +1,6 @@
 -- What the call answers for a body and the longest wait: document 02, F-1. As of every call, document 01 says: "A refusal gives its number, zeros for
 -- numbers".
-use Rattle.std.specs.Prelude.{ℕ, ◌+◌, Bool, cond, List, ltb, eqb}
+use Rattle.std.specs.Prelude.{ℕ, ◌+◌, Bool, cond, List, Result, Ok, Err, ltb, eqb}
 use Rattle.machine.specs.Test.{◌and◌, ◌or◌, none}
 use Rattle.machine.specs.Instruction.{Instruction}
 use Rattle.machine.specs.Time.{max_latency}
@@ -8,7 +8,10 @@ use Rattle.machine.specs.Bus.{counts_fetch, counts_data, accesses, bus_time}
 use Rattle.record.specs.Refusal.{◌then◌, ◌unless◌}
 use Rattle.record.specs.Rules.{instruction_of}
 use Rattle.record.specs.Body.{records, fields_at, trace_with, timed_refusal}
-use Rattle.bus.specs.declared.call.TimeOnBus.{TimeOnBus}
+use Rattle.record.specs.Number.{number}
+use Rattle.record.specs.declared.refusal.Refusal.{Refusal}
+use Rattle.bus.specs.declared.call.BusTime.{BusTime}
+use Rattle.bus.specs.declared.answer.TimeOnBus.{TimeOnBus}
 
 -- "15: a counted latency plus d exceeds 65,535"
 abbrev pub long_wait : ℕ
@@ -28,6 +31,11 @@ wait_refusal body longest = long_wait unless none (exceeds_at body longest) (rec
 -- "Refuses 10, 8, then 15"; document 02, F-4: "17, after 8"
 unfoldable pub bus_refusal : List ℕ → ℕ → ℕ → ℕ
 bus_refusal body longest h = timed_refusal body h then wait_refusal body longest
+
+-- what the call gives, and where it declines its refusal's number, as one answer
+abbrev pub time_on_bus : Result BusTime Refusal → TimeOnBus
+time_on_bus (Ok t) = record { refusal = 0; accesses = t.accesses; time = t.time }
+time_on_bus (Err r) = record { refusal = number r; accesses = 0; time = 0 }
 
 -- "A new part counts N, [..] and gives worst time plus N times d."
 unfoldable pub bus_answer : List ℕ → ℕ → ℕ → TimeOnBus

@@ -1,46 +1,29 @@
-// The public call. A refusal gives its number, and zeros for the rest.
+// The public call.
 ghost use Rattle.std.specs.Prelude.{◌≡◌};
-ghost use Rattle.bus.specs.Answers.{bus_answer};
+ghost use Rattle.bus.specs.Answers.{time_on_bus, bus_answer};
 
 use crate::counting::count_accesses;
-use crate::refusal::LONG_WAIT;
-use acceptance::timed_refusal;
-use decode::MISS;
+use acceptance::check_timed;
+use machine::Flag;
 use passing::finish_settled;
+use record::Refusal;
 
-#[repr(C)]
-#[derive(Clone, Copy, Drop)]
-pub struct TimeOnBus {
-    pub refusal: u32,
+// How many accesses are counted, and the worst time with the waits for them.
+#[derive(Clone, Copy, Debug, PartialEq, Eq, Drop)]
+pub struct BusTime {
     pub accesses: u32,
     pub time: u32,
 }
 
 // The worst time, plus the longest wait for each access marked miss or unknown.
-pub fn bus_time(body: &[u8], wait: u16, hit_cycles: u32) -> TimeOnBus
-    ensures { result ≡ bus_answer body.now wait hit_cycles }
+pub fn bus_time(body: &[u8], wait: u16, hit_cycles: u32) -> Result<BusTime, Refusal>
+    ensures { time_on_bus result ≡ bus_answer body.now wait hit_cycles }
 {
-    let refusal = timed_refusal(body, hit_cycles);
-    if refusal != 0 {
-        return TimeOnBus {
-            refusal,
-            accesses: 0,
-            time: 0,
-        };
-    }
-    let counted = count_accesses(body, wait);
-    if counted.too_long {
-        return TimeOnBus {
-            refusal: LONG_WAIT,
-            accesses: 0,
-            time: 0,
-        };
-    }
-    let accesses = counted.accesses;
-    let worst = finish_settled(body, MISS, hit_cycles);
-    TimeOnBus {
-        refusal: 0,
+    check_timed(body, hit_cycles)?;
+    let accesses = count_accesses(body, wait)?;
+    let worst = finish_settled(body, Flag::Miss, hit_cycles);
+    Ok(BusTime {
         accesses,
         time: worst + accesses * wait as u32,
-    }
+    })
 }

@@ -1,24 +1,17 @@
 // The accesses that are counted: the fetches, and the data accesses of loads and stores, that are
 // marked miss or unknown. Inner functions, the pass for an accepted body.
-ghost use Rattle.std.specs.Prelude.{◌≡◌, ◌≤◌};
-ghost use Rattle.machine.specs.Bus.{counts_fetch, counts_data, accesses_of};
+ghost use Rattle.std.specs.Prelude.{◌≡◌, ◌≤◌, IfOk};
+ghost use Rattle.machine.specs.Bus.{counts_fetch, counts_data, accesses_of, accesses};
 ghost use Rattle.record.specs.Rules.{instruction_of};
-ghost use Rattle.record.specs.Body.{body_refusal};
-ghost use Rattle.bus.specs.Answers.{exceeds};
-ghost use Rattle.bus.specs.Inner.{Counts};
+ghost use Rattle.record.specs.Number.{refusal_in};
+ghost use Rattle.record.specs.Body.{body_refusal, trace_of};
+ghost use Rattle.bus.specs.Answers.{exceeds, wait_refusal};
 
-use decode::{access_hits, choose, fetch_hits, is_load, is_store};
-use record::{Fields, count, fields_at};
+use decode::{access_hits, fetch_hits, is_load, is_store};
+use record::{Fields, Refusal, count, fields_or_zeros};
 
 // The longest latency that a record holds.
 const MAX_LATENCY: u32 = 65535;
-
-// How many accesses are counted, and whether the wait makes one of them longer than a record holds.
-#[derive(Clone, Copy, Drop)]
-pub struct Counted {
-    pub accesses: u32,
-    pub too_long: bool,
-}
 
 fn counts_fetch(f: Fields) -> bool
     ensures { result ≡ counts_fetch (instruction_of f) }
@@ -36,7 +29,7 @@ fn counts_data(f: Fields) -> bool
 fn accesses_of(f: Fields) -> u32
     ensures { (result ≡ accesses_of (instruction_of f)) × (result ≤ 2) }
 {
-    choose(counts_fetch(f), 1, 0) + choose(counts_data(f), 1, 0)
+    counts_fetch(f) as u32 + counts_data(f) as u32
 }
 
 // Whether one that is counted is too long with the wait: longer than the wait leaves room for.
@@ -47,17 +40,20 @@ fn exceeds(f: Fields, wait: u16) -> bool
     (counts_fetch(f) & (f.fetch_latency > most)) | (counts_data(f) & (f.data_latency > most))
 }
 
-pub fn count_accesses(body: &[u8], wait: u16) -> Counted
+// Of the first access that is too long with the wait, 15.
+pub fn count_accesses(body: &[u8], wait: u16) -> Result<u32, Refusal>
     requires { body_refusal body.now ≡ 0 }
-    ensures { Counts body.now wait result }
+    ensures waits { refusal_in result ≡ wait_refusal body.now wait }
+    ensures counted { IfOk result (λ n. n ≡ accesses (trace_of body.now)) }
 {
     let records = count(body);
     let mut accesses = 0;
-    let mut too_long = false;
     for k in 0..records {
-        let read = fields_at(body, k);
-        accesses += accesses_of(read.fields);
-        too_long = too_long | exceeds(read.fields, wait);
+        let f = fields_or_zeros(body, k);
+        if exceeds(f, wait) {
+            return Err(Refusal::LongWait);
+        }
+        accesses += accesses_of(f);
     }
-    Counted { accesses, too_long }
+    Ok(accesses)
 }

@@ -2,8 +2,9 @@
 // more for the worst time (`passing`), to which each counted access adds the longest wait.
 #![tactic(auto)]
 
+pub mod answer;
 pub mod call;
 mod counting;
-pub mod refusal;
 
-pub use call::{TimeOnBus, bus_time};
+pub use answer::TimeOnBus;
+pub use call::{BusTime, bus_time};

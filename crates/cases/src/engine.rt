@@ -1,38 +1,89 @@
-// The engine's answer to a case.
-use crate::jobs::fills;
-use crate::writing::writes;
-use case_text::{first, narrow, nth, says, says_all, says_margin, says_state, state_at};
-use parts::cut;
+// The engine's answers.
+use crate::calls::{Calls, Refused, number, part};
+use crate::case::Case;
+use crate::{COUNTS, room};
+use bus::BusTime;
+use record::{Read, Refusal};
+use running::Progress;
+use timing::Extremes;
 
-// open TRACE DECLINED = refusal, start, end. DECLINED is what declines the file; the part is the file's from
-// start to end.
-fn open(s: &[u8], trace: u32, file: &[u8]) -> bool {
-    let found = job::locate(file, trace);
-    let body = opener::inner::open_body(file, trace);
-    says(s, found.refusal, narrow(found.start), narrow(found.end))
-        & (job::file_refusal(file) == nth(s, 3))
-        & check::same(body, cut(file, found.start, found.end))
-}
+pub struct Engine;
 
-// step STATE = refusal, 0, 0, state; or only the refusal
-fn step(s: &[u8], body: &[u8], hit_cycles: u32) -> bool {
-    let stepped = pipeline::step(body, state_at(s), hit_cycles);
-    let told = first(s);
-    if told.next == s.len() {
-        return told.valid & (told.value == stepped.refusal);
+impl From<Refusal> for Refused {
+    fn from(refusal: Refusal) -> Refused {
+        Refused(refusal.number())
     }
-    says_state(s, stepped.refusal, 0, false, stepped.state)
 }
 
-// view K = refusal on making it, refusal on K, nine fields
-fn view(s: &[u8], k: u32, body: &[u8]) -> bool {
-    let viewed = viewing::read_through(body, k);
-    let read = viewed.read;
-    let f = read.fields;
-    says_all(
-        s,
-        &[
-            viewed.made,
+impl Calls for Engine {
+    fn check(case: &Case<'_>) -> Result<(), Refused> {
+        Ok(acceptance::check_body(case.body)?)
+    }
+
+    fn check_settled(case: &Case<'_>) -> Result<(), Refused> {
+        Ok(acceptance::check_settled(case.body, case.hit_cycles)?)
+    }
+
+    fn run(case: &Case<'_>) -> Result<Progress, Refused> {
+        Ok(running::run(case.body, case.argument, case.hit_cycles)?)
+    }
+
+    fn finish(case: &Case<'_>) -> Result<u32, Refused> {
+        Ok(timing::finish(case.body, case.hit_cycles)?)
+    }
+
+    fn best_worst(case: &Case<'_>) -> Result<Extremes, Refused> {
+        Ok(timing::best_worst(case.body, case.hit_cycles)?)
+    }
+
+    fn bus_time(case: &Case<'_>) -> Result<BusTime, Refused> {
+        let wait = (case.argument % 65536) as u16;
+        Ok(bus::bus_time(case.body, wait, case.hit_cycles)?)
+    }
+
+    fn alike(case: &Case<'_>) -> Result<bool, Refused> {
+        Ok(timing::alike(case.body, case.beside, case.hit_cycles)?)
+    }
+
+    fn worst_times(case: &Case<'_>, list: &mut [u32]) -> Result<u32, Refused> {
+        Ok(whole_job::worst_times(case.body, list, case.hit_cycles)?)
+    }
+
+    // DECLINED is what declines the file; what Open gives is the file's part from start to end.
+    fn opens(case: &Case<'_>) -> bool {
+        let file = case.body;
+        let found = job::locate(file, case.argument);
+        let body = found.map(|bounds| file.get(bounds.start..bounds.end).unwrap_or(&[]));
+        case.tells(
+            found
+                .map(|bounds| part(bounds.start..bounds.end))
+                .map_err(Refused::from),
+        ) && case.line.number(3) == number(job::check_file(file).map_err(Refused::from))
+            && opener::open(file, case.argument) == body
+    }
+
+    // write LENGTH LENT N COUNTS = refusal, length; LENGTH is that of what stands beside. The output is
+    // then what stands beside the records: the file, and what was there before past its end, or all of that
+    // on a refusal.
+    fn writes(case: &Case<'_>) -> bool {
+        let mut numbers = [0u16; COUNTS];
+        let counts = case.line.counts(&mut numbers);
+        let mut out = room();
+        let Some(lent) = out.get_mut(..case.line.number(3) as usize) else {
+            return false;
+        };
+        let written = writer::write(counts, case.body, lent).map_err(Refused::from);
+        case.tells(written.map(|length| (length, 0))) && out.starts_with(case.beside)
+    }
+
+    // view K = refusal on making it, refusal on K, nine fields; no K is in a view that was not made
+    fn views(case: &Case<'_>) -> bool {
+        let viewed = viewing::read_through(case.body, case.argument);
+        let made = viewed.err().map_or(0, |refusal| refusal.number());
+        let read = Read::from(viewed.unwrap_or(Err(Refusal::OutOfRange)));
+        let f = read.fields;
+        case.line.says(&[
+            made,
             read.refusal,
             f.kind,
             f.fetch,
@@ -43,55 +94,24 @@ fn view(s: &[u8], k: u32, body: &[u8]) -> bool {
             f.execution,
             f.fetch_latency,
             f.data_latency,
-        ],
-    )
-}
+        ])
+    }
 
-// Whether it answers the line as that says.
-pub fn answers(
-    call: u8,
-    s: &[u8],
-    argument: u32,
-    body: &[u8],
-    beside: &[u8],
-    hit_cycles: u32,
-) -> bool {
-    match call {
-        b'o' => open(s, argument, body),
-        b'w' => writes(s, body, beside, true),
-        b'j' => fills(s, argument, body, true, hit_cycles),
-        b'c' => says(
-            s,
-            acceptance::body_refusal(body),
-            acceptance::settled_refusal(body, hit_cycles),
-            0,
-        ),
-        b'v' => view(s, argument, body),
-        b's' => step(s, body, hit_cycles),
-        b'r' => {
-            let ran = running::run(body, argument, hit_cycles);
-            says_state(s, ran.refusal, ran.cycles, ran.left, ran.state)
+    // step STATE = refusal, 0, 0, state, which is the given one on a refusal; or only the refusal
+    fn steps(case: &Case<'_>) -> bool {
+        let given = case.line.state();
+        let (refusal, state) = match pipeline::step(case.body, given, case.hit_cycles) {
+            Ok(state) => (0, state),
+            Err(refusal) => (refusal.number(), given),
+        };
+        case.line.says(&[refusal]) || case.line.says_state(refusal, 0, false, state)
+    }
+
+    // margin DEADLINE = refusal, how far the margin is above 0, how far below
+    fn margins(case: &Case<'_>) -> bool {
+        match timing::margin(case.body, case.argument, case.hit_cycles) {
+            Ok(margin) => case.line.says_margin(0, margin),
+            Err(refusal) => case.line.says_margin(refusal.number(), 0),
         }
-        b'f' => {
-            let found = timing::finish(body, hit_cycles);
-            says(s, found.refusal, found.time, 0)
-        }
-        b't' => {
-            let found = timing::best_worst(body, hit_cycles);
-            says(s, found.refusal, found.best, found.worst)
-        }
-        b'm' => {
-            let found = timing::margin(body, argument, hit_cycles);
-            says_margin(s, found.refusal, found.margin)
-        }
-        b'b' => {
-            let found = bus::bus_time(body, (argument % 65536) as u16, hit_cycles);
-            says(s, found.refusal, found.accesses, found.time)
-        }
-        b'a' => {
-            let found = timing::alike(body, beside, hit_cycles);
-            says(s, found.refusal, found.alike as u32, 0)
-        }
-        _ => false,
     }
 }

@@ -1,80 +1,63 @@
 // Line after line: bytes are laid out, cases are tried and counted by groups.
-ghost use Rattle.std.specs.Prelude.{◌≤◌, length};
-
-use crate::{engine, second};
-use case_text::{differs, end_group, find, lay, nth, wide};
-use parts::cut;
+use crate::case::Case;
+use crate::engine::Engine;
+use crate::second::Second;
+use case_text::{Line, differs, end_group};
 use std::io::{self, Write};
 
 // How many cases of the group were tried, and how many came out.
-#[derive(Clone, Copy, Drop)]
+#[derive(Clone, Copy, Default)]
 struct Tally {
     tried: u64,
     right: u64,
 }
 
-// Where the bytes start that stand beside the input.
-const BESIDE: usize = 65600;
-
-// The bit that makes a capital a small letter.
-const SMALL: u8 = 32;
-
 // Where the label stands behind `group`.
 const LABEL: usize = 6;
 
-// 1 where the case comes out.
-fn try_case<W: Write>(out: &mut W, s: &[u8], call: u8, n: u64, bytes: &[u8]) -> io::Result<u64> {
-    let hit_cycles = nth(s, 0);
-    let argument = nth(s, 2);
-    let body = cut(bytes, 0, wide(nth(s, 1)));
-    let beside = cut(bytes, BESIDE, BESIDE + wide(argument));
-    if engine::answers(call | SMALL, s, argument, body, beside, hit_cycles) {
-        if second::answers(call, s, argument, body, beside, hit_cycles) {
-            return Ok(1);
-        }
-        differs(out, s, n, b": the second model differs\n")?;
-    } else {
-        differs(out, s, n, b": the engine differs\n")?;
+// Who does not answer as the line tells; what begins with no call the engine does not answer.
+fn differing(line: Line<'_>, bytes: &[u8]) -> Option<&'static str> {
+    let Some(case) = Case::read(line, bytes) else {
+        return Some("the engine");
+    };
+    if !case.comes_out::<Engine>() {
+        return Some("the engine");
     }
-    Ok(0)
+    if case.capital || case.comes_out::<Second>() {
+        return None;
+    }
+    Some("the second model")
 }
 
-fn line<W: Write>(
+fn follow<W: Write>(
     out: &mut W,
-    s: &[u8],
-    call: u8,
-    tally: Tally,
+    line: Line<'_>,
+    tally: &mut Tally,
     bytes: &mut [u8],
-) -> io::Result<Tally> {
-    match call {
-        b'p' => {
-            lay(s, bytes);
-            Ok(tally)
-        }
-        b'g' => {
-            end_group(out, cut(s, LABEL, s.len()), tally.right, tally.tried)?;
-            Ok(Tally { tried: 0, right: 0 })
+) -> io::Result<()> {
+    match line.text.first() {
+        Some(b'p') => line.lay(bytes),
+        Some(b'g') => {
+            let label = line.text.get(LABEL..).unwrap_or(&[]);
+            end_group(out, label, tally.right, tally.tried)?;
+            *tally = Tally::default();
         }
         _ => {
-            let tried = tally.tried.wrapping_add(1);
-            let more = try_case(out, s, call, tried, bytes)?;
-            Ok(Tally {
-                tried,
-                right: tally.right.wrapping_add(more),
-            })
+            tally.tried = tally.tried.wrapping_add(1);
+            match differing(line, bytes) {
+                Some(by) => differs(out, line, tally.tried, by)?,
+                None => tally.right = tally.right.wrapping_add(1),
+            }
         }
     }
+    Ok(())
 }
 
-pub fn each_line<W: Write>(out: &mut W, s: &[u8], bytes: &mut [u8]) -> io::Result<()>
-    requires { length s.now ≤ 900000 }
-{
-    let mut tally = Tally { tried: 0, right: 0 };
-    let mut at = 0;
-    while at < s.len() {
-        let end = find(s, at, b'\n');
-        tally = line(out, cut(s, at, end), s[at], tally, bytes)?;
-        at = end + 1;
+pub fn each_line<W: Write>(out: &mut W, lines: &[u8], bytes: &mut [u8]) -> io::Result<()> {
+    let mut tally = Tally::default();
+    for line in lines.split_inclusive(|byte| *byte == b'\n') {
+        let text = line.strip_suffix(b"\n").unwrap_or(line);
+        follow(out, Line { text }, &mut tally, bytes)?;
     }
     Ok(())
 }

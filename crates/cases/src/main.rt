@@ -12,16 +12,19 @@
 //   group LABEL        the end of a group
 #![tactic(auto)]
 
+mod calls;
+mod case;
 mod engine;
-mod jobs;
 mod lines;
 mod second;
-mod writing;
 
 ghost use Rattle.std.specs.Prelude.{◌≡◌, length};
 
-use reading::read_full;
+use reading::read_part;
 use std::io;
+
+// The most counts that a case of Write has.
+const COUNTS: usize = 17;
 
 // Room for all lines, for the bytes of a case and those beside them, or for an output, and what that holds
 // before. The contract gives only the length: what the array holds would be carried along at a cost.
@@ -34,6 +37,6 @@ fn room() -> [u8; 900000]
 fn main(rt: HostRuntime) -> io::Result<()> {
     let mut data = room();
     let mut bytes = room();
-    let n = read_full(&mut rt.reader(), &mut data);
-    lines::each_line(&mut io::writer(&rt), &data[..n], &mut bytes)
+    let lines = read_part(&mut rt.reader(), &mut data);
+    lines::each_line(&mut io::writer(&rt), lines, &mut bytes)
 }

@@ -1,134 +1,140 @@
-// The second model's answer to a case. It has no View and no Step: of these it judges the body.
-use crate::jobs::fills;
-use crate::writing::writes;
-use case_text::{first, narrow, says, says_margin, says_state};
+// The second model's answers. It has no View and no Step, and writes no file: of these it says what
+// declines them.
+use crate::COUNTS;
+use crate::calls::{Calls, Refused, index, part};
+use crate::case::Case;
+use bus::BusTime;
 use machine::{Slot, State};
+use model::{Core, MOST, Refusal, Stage, number_of};
+use running::Progress;
+use timing::Extremes;
 
-fn open(s: &[u8], trace: u32, file: &[u8]) -> bool {
-    let found = model::open(file, trace);
-    let end = found.start.wrapping_add(found.length);
-    says(s, found.refusal, narrow(found.start), narrow(end))
-}
+pub struct Second;
 
-fn slot_of(body: &[u8], stages: &[u8], counts: &[u32], stage: u8) -> Slot {
-    let slot = model::in_stage(body, stages, counts, stage);
-    Slot {
-        filled: slot.filled,
-        index: narrow(slot.index),
-        count: slot.count,
+type Pipeline = Core<MOST>;
+
+// No line tells this: a trace has not left by the bound within which the model runs it.
+const UNENDED: Refused = Refused(u32::MAX);
+
+// The most unknown flags of a trace of a job that are settled one by one.
+const FEW: u32 = 6;
+
+impl From<Refusal> for Refused {
+    fn from(refusal: Refusal) -> Refused {
+        Refused(refusal.number())
     }
 }
 
-fn state_of(body: &[u8], stages: &[u8], counts: &[u32]) -> State {
+fn slot_of(core: &Pipeline, stage: Stage) -> Slot {
+    match core.in_stage(stage) {
+        Some(slot) => Slot::holding(index(slot.index), slot.count),
+        None => Slot::EMPTY,
+    }
+}
+
+fn state_of(core: &Pipeline) -> State {
     State {
-        fetched: narrow(model::fetched(body, stages)),
-        IF: slot_of(body, stages, counts, model::IF),
-        ID: slot_of(body, stages, counts, model::ID),
-        EX: slot_of(body, stages, counts, model::EX),
-        MEM: slot_of(body, stages, counts, model::MEM),
-        ST: slot_of(body, stages, counts, model::ST),
-        WB: slot_of(body, stages, counts, model::WB),
+        fetched: index(core.fetched()),
+        IF: slot_of(core, Stage::IF),
+        ID: slot_of(core, Stage::ID),
+        EX: slot_of(core, Stage::EX),
+        MEM: slot_of(core, Stage::MEM),
+        ST: slot_of(core, Stage::ST),
+        WB: slot_of(core, Stage::WB),
     }
 }
 
-// A trace that is declined is run for no cycle, so that all is as at the start.
-fn run(s: &[u8], limit: u32, body: &[u8], hit_cycles: u32) -> bool {
-    let refusal = model::settled_refusal(body, hit_cycles);
-    let cycles = if refusal == 0 { limit } else { 0 };
-    let mut stages = [0u8; 4096];
-    let mut counts = [0u32; 4096];
-    let ran = model::run(body, cycles, &mut stages, &mut counts, hit_cycles);
-    let left = ran.left & (refusal == 0);
-    says_state(
-        s,
-        refusal,
-        ran.cycles,
-        left,
-        state_of(body, &stages, &counts),
-    )
+fn finish(body: &[u8], hit_cycles: u32) -> Result<u32, Refused> {
+    model::check_settled(body, hit_cycles)?;
+    let mut core = Pipeline::of(body)?;
+    core.finish(hit_cycles).ok_or(UNENDED)
 }
 
-#[derive(Clone, Copy, Drop)]
-struct Outcome {
-    refusal: u32,
-    time: u32,
-}
-
-fn finished(body: &[u8], hit_cycles: u32) -> Outcome {
-    let refusal = model::settled_refusal(body, hit_cycles);
-    let time = if refusal == 0 {
-        model::finish(body, hit_cycles)
-    } else {
-        0
-    };
-    Outcome { refusal, time }
-}
-
-// "10, 8, 11 of the first, then of the second", with 17 after 8
-fn alike(s: &[u8], body: &[u8], beside: &[u8], hit_cycles: u32) -> bool {
-    let one = finished(body, hit_cycles);
-    let other = finished(beside, hit_cycles);
-    let refusal = if one.refusal == 0 {
-        other.refusal
-    } else {
-        one.refusal
-    };
-    let same = (refusal == 0) & (one.time == other.time);
-    says(s, refusal, same as u32, 0)
-}
-
-fn bounded(call: u8, s: &[u8], deadline: u32, body: &[u8], hit_cycles: u32) -> bool {
-    let refusal = model::timed_refusal(body, hit_cycles);
-    if refusal != 0 {
-        return says(s, refusal, 0, 0);
+impl Calls for Second {
+    fn check(case: &Case<'_>) -> Result<(), Refused> {
+        Ok(model::check_body(case.body)?)
     }
-    let found = model::bounds(body, hit_cycles);
-    if call == b't' {
-        return says(s, 0, found.best, found.worst);
+
+    fn check_settled(case: &Case<'_>) -> Result<(), Refused> {
+        Ok(model::check_settled(case.body, case.hit_cycles)?)
     }
-    says_margin(s, 0, model::margin(deadline, found.worst))
-}
 
-// The refusals that come before 12.
-fn step(s: &[u8], body: &[u8], hit_cycles: u32) -> bool {
-    let refusal = model::settled_refusal(body, hit_cycles);
-    let told = first(s).value;
-    (told == refusal) | ((refusal == 0) & (told == 12))
-}
+    fn run(case: &Case<'_>) -> Result<Progress, Refused> {
+        model::check_settled(case.body, case.hit_cycles)?;
+        let mut core = Pipeline::of(case.body)?;
+        let ran = core.run(case.argument, case.hit_cycles);
+        Ok(Progress {
+            state: state_of(&core),
+            cycles: ran.cycles,
+            left: ran.left,
+        })
+    }
 
-// Whether it answers the line as that says; a call with a capital is not asked of it, and one that it does
-// not know it does not answer.
-pub fn answers(
-    call: u8,
-    s: &[u8],
-    argument: u32,
-    body: &[u8],
-    beside: &[u8],
-    hit_cycles: u32,
-) -> bool {
-    match call {
-        b'o' => open(s, argument, body),
-        b'w' => writes(s, body, beside, false),
-        b'j' => fills(s, argument, body, false, hit_cycles),
-        b'c' => says(
-            s,
-            model::body_refusal(body),
-            model::settled_refusal(body, hit_cycles),
-            0,
-        ),
-        b'v' => first(s).value == model::body_refusal(body),
-        b's' => step(s, body, hit_cycles),
-        b't' | b'm' => bounded(call, s, argument, body, hit_cycles),
-        b'r' => run(s, argument, body, hit_cycles),
-        b'f' => {
-            let found = finished(body, hit_cycles);
-            says(s, found.refusal, found.time, 0)
+    fn finish(case: &Case<'_>) -> Result<u32, Refused> {
+        finish(case.body, case.hit_cycles)
+    }
+
+    fn best_worst(case: &Case<'_>) -> Result<Extremes, Refused> {
+        model::check_timed(case.body, case.hit_cycles)?;
+        let found = model::bounds::<MOST>(case.body, case.hit_cycles).ok_or(UNENDED)?;
+        Ok(Extremes {
+            best: found.best,
+            worst: found.worst,
+        })
+    }
+
+    fn bus_time(case: &Case<'_>) -> Result<BusTime, Refused> {
+        let found = model_bus::bus_time::<MOST>(case.body, case.argument, case.hit_cycles)?;
+        Ok(BusTime {
+            accesses: found.accesses,
+            time: found.time.ok_or(UNENDED)?,
+        })
+    }
+
+    // "10, 8, 11 of the first, then of the second", with 17 after 8
+    fn alike(case: &Case<'_>) -> Result<bool, Refused> {
+        let one = finish(case.body, case.hit_cycles)?;
+        let other = finish(case.beside, case.hit_cycles)?;
+        Ok(one == other)
+    }
+
+    fn worst_times(case: &Case<'_>, list: &mut [u32]) -> Result<u32, Refused> {
+        let traces = model_job::worst_times::<MOST>(case.body, list, FEW, case.hit_cycles)?;
+        Ok(traces)
+    }
+
+    fn opens(case: &Case<'_>) -> bool {
+        let found = model::open(case.body, case.argument);
+        case.tells(found.map(part).map_err(Refused::from))
+    }
+
+    fn writes(case: &Case<'_>) -> bool {
+        let mut numbers = [0u16; COUNTS];
+        let counts = case.line.counts(&mut numbers);
+        let lent = case.line.number(3) as usize;
+        let written = model::check_write(counts, case.body, lent);
+        case.line.first().unwrap_or(0) == number_of(&written)
+    }
+
+    fn views(case: &Case<'_>) -> bool {
+        case.line.first().unwrap_or(0) == number_of(&model::check_body(case.body))
+    }
+
+    // The refusals that come before 12.
+    fn steps(case: &Case<'_>) -> bool {
+        let told = case.line.first().unwrap_or(0);
+        match model::check_settled(case.body, case.hit_cycles) {
+            Ok(()) => told == 0 || told == 12,
+            Err(refusal) => told == refusal.number(),
         }
-        b'b' => {
-            let found = model_bus::bus_time(body, argument, hit_cycles);
-            says(s, found.refusal, found.accesses, found.time)
+    }
+
+    fn margins(case: &Case<'_>) -> bool {
+        match Second::best_worst(case) {
+            Ok(found) => case
+                .line
+                .says_margin(0, model::margin(case.argument, found.worst)),
+            Err(refused) => case.tells(Err(refused)),
         }
-        b'a' => alike(s, body, beside, hit_cycles),
-        _ => call < b'a',
     }
 }

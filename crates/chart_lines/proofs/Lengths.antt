@@ -1,10 +1,14 @@
 -- A slot's text by cases, and upper bounds on the lengths of the lines of a chart.
-use Prim.Native.Nat.{ℕ, ◌+◌, ◌≤◌}
+use Prim.Native.Nat.{ℕ, ◌+◌, ◌*◌, ◌≤◌, ◌<◌}
 use mathlib.Core.Bool.{true, false}
-use mathlib.Core.List.{List, [], ◌∷◌, ◌++◌, append_assoc}
+use mathlib.Core.List.{List, [], ◌∷◌, ◌++◌, append-nil, append_assoc}
 use mathlib.Core.Path.{◌≡◌, sym, ap, ◌∙◌}
 use native.Mathlib.Omega.{arith}
-use lib.ListN.{length, length-append}
+use lib.ListN.{length, length-append, take, get_or}
+use lib.Seq.{take-suc, length-take-le}
+use Rattle.std.proofs.Common.{add-one}
+use Rattle.std.specs.List.{flat_map}
+use Rattle.std.proofs.lemmas.Grind.{flat_map-append}
 use Rattle.machine.specs.declared.Slot.{Slot}
 use Rattle.machine.specs.declared.State.{State}
 use Rattle.machine.proofs.Connectives.{Value, passed, failed, value}
@@ -47,37 +51,54 @@ slot_by s (failed e) = rw (slot_empty s e) (record { within = omega arith })
 slot_is_short : (s : Slot) → Short slot_bytes (slot_text s)
 slot_is_short s = slot_by s (value s.filled)
 
-slots_are_short : (a b c : Slot) → Short 66 (slot_text a ++ slot_text b ++ slot_text c)
-slots_are_short a b c = both (both (slot_is_short a) (slot_is_short b)) (slot_is_short c)
-
 pub slot_short : (s : Slot) → length (slot_text s) ≤ slot_bytes
 slot_short s = (slot_is_short s).within
 
-pub slots_short : (a b c : Slot) → length (slot_text a ++ slot_text b ++ slot_text c) ≤ 66
-slots_short a b c = (slots_are_short a b c).within
+pub slots_are_short : (slots : List Slot) → Short (slot_bytes * length slots) (flat_map slot_text slots)
+slots_are_short [] = record { within = omega arith }
+slots_are_short (slot ∷ slots) =
+    let first = (slot_is_short slot).within in
+    let rest = (slots_are_short slots).within in
+    let e = length-append (slot_text slot) (flat_map slot_text slots) in
+    record { within = omega arith }
 
--- a row, whose slots are put three at a time
-three : (a b c d : List ℕ) → a ++ (b ++ c ++ d) ≡ a ++ b ++ c ++ d
-three a b c d = sym (append_assoc a (b ++ c) d) ∙ ap (λ (t : List ℕ). t ++ d) (sym (append_assoc a b c))
+-- the first of some slots, and one more
+pub first_slots_short : (slots : List Slot) (k : ℕ) → k ≤ length slots → length (flat_map slot_text (take k slots)) ≤ slot_bytes * k
+first_slots_short slots k inside =
+    let short = (slots_are_short (take k slots)).within in
+    let taken = length-take-le k slots inside in
+    omega arith
 
-pub row_joined
-    : (n : ℕ) (s : State) →
-    decimal n ++ (slot_text s.IF ++ slot_text s.ID ++ slot_text s.EX) ++ (slot_text s.MEM ++ slot_text s.ST ++ slot_text s.WB) ++ (10 ∷ [])
-    ≡ row_text n s
+pub slots_more
+    : (slots : List Slot) (k : ℕ) (d : Slot) → k < length slots →
+    flat_map slot_text (take k slots) ++ slot_text (get_or slots k d) ≡ flat_map slot_text (take (k + 1) slots)
+slots_more slots k d inside =
+    sym
+    (ap (λ (n : ℕ). flat_map slot_text (take n slots)) (add-one k)
+    ∙ ap (flat_map slot_text) (take-suc slots k d inside)
+    ∙ flat_map-append slot_text (take k slots) (get_or slots k d ∷ [])
+    ∙ ap (λ (t : List ℕ). flat_map slot_text (take k slots) ++ t) (append-nil (slot_text (get_or slots k d))))
+
+abbrev pub slots : State → List Slot
+slots s = s.IF ∷ s.ID ∷ s.EX ∷ s.MEM ∷ s.ST ∷ s.WB ∷ []
+
+one_more : (a b c : List ℕ) → a ++ (b ++ c) ≡ a ++ b ++ c
+one_more a b c = sym (append_assoc a b c)
+
+pub row_joined : (n : ℕ) (s : State) → decimal n ++ flat_map slot_text (slots s) ++ (10 ∷ []) ≡ row_text n s
 unfolding row_text
 row_joined n s =
-    let slots = decimal n ++ (slot_text s.IF ++ slot_text s.ID ++ slot_text s.EX) in
     ap (λ (t : List ℕ). t ++ (10 ∷ []))
-    (three slots (slot_text s.MEM) (slot_text s.ST) (slot_text s.WB)
-    ∙ ap (λ (t : List ℕ). t ++ slot_text s.MEM ++ slot_text s.ST ++ slot_text s.WB)
-    (three (decimal n) (slot_text s.IF) (slot_text s.ID) (slot_text s.EX)))
+    (one_more (decimal n) (slot_text s.IF) _
+    ∙ one_more _ (slot_text s.ID) _
+    ∙ one_more _ (slot_text s.EX) _
+    ∙ one_more _ (slot_text s.MEM) _
+    ∙ one_more _ (slot_text s.ST) _
+    ∙ one_more _ (slot_text s.WB) []
+    ∙ append-nil _)
 
 pub row_is_short : (n : ℕ) (s : State) → Short row_bytes (row_text n s)
-row_is_short n s =
-    rw (sym (row_joined n s))
-    (both
-    (both (both (number n) (slots_are_short s.IF s.ID s.EX)) (slots_are_short s.MEM s.ST s.WB))
-    (one 10))
+row_is_short n s = rw (sym (row_joined n s)) (both (both (number n) (slots_are_short (slots s))) (one 10))
 
 -- the last line, whose numbers are put each with its label
 pub times_joined

@@ -1,7 +1,7 @@
 -- What `draw` leaves in its output: the chart, or the output as it was where it is too short.
 use Prim.Native.Nat.{ℕ, ◌≤◌, ◌<◌}
 use mathlib.Core.List.{List}
-use mathlib.Core.Path.{◌≡◌, refl, sym, ap, ◌∙◌}
+use mathlib.Core.Path.{◌≡◌, refl, sym}
 use native.Mathlib.Omega.{arith}
 use borrow.Author.Tests.{le-leb, lt-leb, leb-true, ne_eqb}
 use lib.Dec.{eqb, leb}
@@ -10,7 +10,7 @@ use lib.Seq.{length-take-le}
 use Rattle.machine.proofs.Connectives.{Value, passed, failed, value}
 use Rattle.record.specs.Body.{trace_with}
 use Rattle.job.specs.Open.{open_refusal, open_body}
-use Rattle.text.specs.Text.{put, Wrote}
+use Rattle.text.specs.Text.{Wrote}
 use Rattle.chart_text.specs.Chart.{chart_of, chart_text, longest, chart_length, chart_output}
 use Rattle.text.proofs.Pieces.{length_put}
 use Rattle.chart_lines.specs.Lines.{refusal_text}
@@ -24,15 +24,13 @@ module _ (file out : List ℕ) where
 
   pub drawn :
       longest ≤ length out →
-      {text afterwards : List ℕ} {end : ℕ} →
-      text ≡ chart_text file →
-      Wrote 0 text out afterwards end →
+      {afterwards : List ℕ} {end : ℕ} →
+      Wrote 0 (chart_text file) out afterwards end →
       (end ≡ chart_length file (length out)) × (afterwards ≡ chart_output file out)
   unfolding chart_length chart_output
-  drawn h {text} {afterwards} {end} e (length-is, put-there, inside) =
-      let all : end ≡ length text = omega arith in
-      rw (le-leb longest (length out) h)
-      (all ∙ ap (λ (t : List ℕ). length t) e, put-there ∙ ap (λ (t : List ℕ). put 0 t out) e)
+  drawn h {afterwards} {end} (length-is, put-there, inside) =
+      let all : end ≡ length (chart_text file) = omega arith in
+      rw (le-leb longest (length out) h) (all, put-there)
 
 pub chart_refused : (file : List ℕ) → (open_refusal file 0 ≡ 0 → ⊥) → chart_text file ≡ refusal_text (open_refusal file 0)
 unfolding chart_text

@@ -1,39 +1,47 @@
 // The whole chart, or the line that gives a refusal.
-ghost use Rattle.std.specs.Prelude.{◌≡◌, ◌≤◌, min, length};
+ghost use Rattle.std.specs.Prelude.{◌≡◌, ◌≤◌, length};
 ghost use Rattle.record.specs.Body.{trace_with, body_refusal};
-ghost use Rattle.text.specs.Text.{Wrote};
+ghost use Rattle.text.specs.Pen.{Room, Adds};
 ghost use Rattle.chart_text.specs.Chart.{
   longest,
   chart_of,
+  chart_text,
   chart_length,
   chart_output,
 };
 
-use chart_lines::{HEADER_BYTES, ROW_BYTES, TIMES_BYTES, draw_refusal, put_header, put_times};
+use chart_lines::{HEADER_BYTES, ROW_BYTES, TIMES_BYTES, put_header, put_refusal, put_times};
 use chart_rows::put_rows;
-use job::locate;
-use parts::cut;
-use timing::best_worst;
+use machine::Flag;
+use opener::open;
+use passing::finish_settled;
+use text::Pen;
 
 const LAST_ROW: u32 = 1000;
 
 // Room for any chart: the header, rows 0 to 1,000 and the last line.
 pub const CHART_BYTES: usize = HEADER_BYTES + (LAST_ROW as usize + 1) * ROW_BYTES + TIMES_BYTES;
 
-fn smaller(a: u32, b: u32) -> u32
-    ensures { result ≡ min a b }
+// One pass over the body for each time: it is accepted, so that Best and worst would check it again.
+fn put_chart(pen: &mut Pen, body: &[u8])
+    requires { (body_refusal body.now ≡ 0) × Room longest pen.old }
+    ensures { Adds (chart_of (trace_with body.now 0)) pen.old pen.new }
 {
-    if a < b { a } else { b }
+    let worst = finish_settled(body, Flag::Miss, 0);
+    let best = finish_settled(body, Flag::Hit, 0);
+    put_header(pen);
+    put_rows(pen, body, worst.min(LAST_ROW));
+    put_times(pen, worst, best);
 }
 
-fn draw_body(body: &[u8], out: &mut [u8]) -> usize
-    requires { (body_refusal body.now ≡ 0) × (longest ≤ length out.old) }
-    ensures { Wrote 0 (chart_of (trace_with body.now 0)) out.old out.new result }
+fn put_chart_or_refusal(pen: &mut Pen, file: &[u8])
+    requires { Room longest pen.old }
+    ensures { Adds (chart_text file.now) pen.old pen.new }
 {
-    let times = best_worst(body, 0);
-    let first = put_header(out);
-    let end = put_rows(body, out, first, smaller(times.worst, LAST_ROW));
-    put_times(out, end, times.worst, times.best)
+    match open(file, 0) {
+        Ok(body) => put_chart(pen, body),
+        Err(refusal) => put_refusal(pen, refusal.number()),
+    }
 }
 
 // Gives the chart's length in the output; bytes past it keep their values. An output with less room
@@ -44,9 +52,7 @@ pub fn draw(file: &[u8], out: &mut [u8]) -> usize
     if out.len() < CHART_BYTES {
         return 0;
     }
-    let found = locate(file, 0);
-    if found.refusal != 0 {
-        return draw_refusal(out, found.refusal);
-    }
-    draw_body(cut(file, found.start, found.end), out)
+    let mut pen = Pen::new(out);
+    put_chart_or_refusal(&mut pen, file);
+    pen.written()
 }

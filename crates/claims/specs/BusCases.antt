@@ -8,7 +8,7 @@ use Rattle.machine.specs.Cases.{cases, case_C, case_F, case_I, case_L, miss_and_
 use Rattle.encoding.specs.Encoding.{body_of}
 use Rattle.timing.specs.Answers.{finish_answer}
 use Rattle.bus.specs.Answers.{bus_answer}
-use Rattle.bus.specs.declared.call.TimeOnBus.{TimeOnBus}
+use Rattle.bus.specs.declared.answer.TimeOnBus.{TimeOnBus}
 use Rattle.claims.specs.Bus.{VersionOf}
 
 abbrev given : ℕ → ℕ → TimeOnBus

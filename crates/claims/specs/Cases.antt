@@ -8,11 +8,11 @@ use Rattle.record.specs.Body.{firsts}
 use Rattle.encoding.specs.Encoding.{body_of}
 use Rattle.encoding.specs.Cases.{bytes_of_D, known, refusal_of}
 use Rattle.running.specs.Run.{run_answer}
-use Rattle.running.specs.declared.running.Ran.{Ran}
+use Rattle.running.specs.declared.answer.Ran.{Ran}
 use Rattle.timing.specs.Answers.{finish_answer, best_worst_answer, margin_answer}
-use Rattle.timing.specs.declared.calls.Finished.{Finished}
-use Rattle.timing.specs.declared.calls.BestAndWorst.{BestAndWorst}
-use Rattle.timing.specs.declared.calls.DeadlineMargin.{DeadlineMargin}
+use Rattle.timing.specs.declared.answers.Finished.{Finished}
+use Rattle.timing.specs.declared.answers.BestAndWorst.{BestAndWorst}
+use Rattle.timing.specs.declared.answers.DeadlineMargin.{DeadlineMargin}
 
 -- Finish gives the table's time, and declines an unknown flag
 unfoldable pub finish_of : Case → Finished

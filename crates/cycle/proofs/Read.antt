@@ -9,7 +9,8 @@ use Rattle.machine.specs.declared.State.{State}
 use Rattle.machine.proofs.Connectives.{Value, passed, failed, value, clash, and_failed_l}
 use Rattle.machine.proofs.BySlots.{standing, kinds_in, moves_in, free_in, moves_at}
 use Rattle.standing.specs.Inner.{Reads}
-use Rattle.standing.specs.declared.reading.Standing.{Standing}
+use Rattle.record.specs.declared.layout.Fields.{Fields}
+use Rattle.stages.specs.declared.Stages.{Stages}
 use Rattle.cycle.specs.Inner.{kind_read}
 
 module _ (going full : Stage → Bool) (kinds other : Stage → Kind) (agree : (k : Stage) → going k ≡ true → kinds k ≡ other k) where
@@ -40,7 +41,7 @@ module _ (going full : Stage → Bool) (kinds other : Stage → Kind) (agree : (
   moves_alike k = (alike (budget k)).0 k
 
 -- of what stands in a stage the kind is read
-pub read_kind : {trace : Trace} {s : State} {w : Standing} → Reads trace s w → (k : Stage) → (standing trace s k).filled ≡ true → kind_read w k ≡ kinds_in trace s k
+pub read_kind : {trace : Trace} {s : State} {w : Stages Fields} → Reads trace s w → (k : Stage) → (standing trace s k).filled ≡ true → kind_read w k ≡ kinds_in trace s k
 unfolding kinds_in standing
 read_kind h pre f = ap (λ (i : Instruction). i.kind) h.pre
 read_kind h IF f = ap (λ (i : Instruction). i.kind) (h.IF f)

@@ -1,6 +1,6 @@
 -- Who moves is found from `starts`: an instruction whose next slot cannot become free does not move anyway. Where no instruction starts, none
 -- moves.
-use Prim.Native.Nat.{ℕ, suc}
+use Prim.Native.Nat.{suc}
 use mathlib.Core.Bool.{Bool, true, false, not, cond, ◌||◌}
 use mathlib.Core.Path.{◌≡◌, refl, sym, ap, ap₂, fun_ext, ◌∙◌}
 use Rattle.machine.specs.Test.{◌and◌, ◌or◌}
@@ -12,8 +12,9 @@ use Rattle.machine.proofs.Connectives.{Value, passed, failed, value, clash, and_
 use Rattle.machine.proofs.Doing.{next_in, next_in_lem}
 use Rattle.machine.proofs.BySlots.{standing, goes, occupied, kinds_in, moves_in, moves_at, free_at, moves_at_lem, free_at_lem, stage_before, arrives_in, arrives, leaves, slot_after, new_slot, step_by_slots}
 use Rattle.machine.proofs.Flow.{leaves_post}
-use Rattle.machine.proofs.Masks.{bits, mask_of, mask_bits, goes_post, occupied_post}
-use Rattle.moving.specs.declared.moving.Bits.{Bits}
+use Rattle.machine.proofs.Masks.{goes_post, occupied_post}
+use Rattle.moving.proofs.Seven.{bits_kept}
+use Rattle.moving.specs.Inner.{Bits}
 use Rattle.moving.specs.Inner.{bits_of, bit_of}
 use Rattle.starting.specs.Inner.{opens, opens_after, starts}
 use Rattle.cycle.specs.Inner.{stays, standstill}
@@ -124,17 +125,17 @@ module _ (trace : Trace) (s : State) where
   -- for kinds that are those of all that stand in the stages
   module _ {kinds : Stage → Kind} (read : (k : Stage) → (standing trace s k).filled ≡ true → kinds k ≡ kinds_in trace s k) where
     pub leaving_is
-        : {going full : ℕ} →
-        going ≡ mask_of (starts trace s) →
-        full ≡ mask_of (occupied trace s) →
-        bits_of (moves_at (bits going) (bits full) kinds) ≡ bits_of (leaves trace s)
+        : {going full : Bits} →
+        going ≡ bits_of (starts trace s) →
+        full ≡ bits_of (occupied trace s) →
+        bits_of (moves_at (bit_of going) (bit_of full) kinds) ≡ bits_of (leaves trace s)
     leaving_is g f =
         ap bits_of
         (fun_ext λ k.
-        (λ i. moves_at (bits (g i)) (bits (f i)) kinds k)
+        (λ i. moves_at (bit_of (g i)) (bit_of (f i)) kinds k)
         ∙ ap₂ (λ (going full : Stage → Bool). moves_at going full kinds k)
-        (fun_ext (mask_bits (starts trace s) (and_failed_l _ _ (goes_post trace s))))
-        (fun_ext (mask_bits (occupied trace s) (occupied_post trace s)))
+        (fun_ext (bits_kept (starts trace s) (and_failed_l _ _ (goes_post trace s))))
+        (fun_ext (bits_kept (occupied trace s) (occupied_post trace s)))
         ∙ moves_alike (starts trace s) (occupied trace s) kinds (kinds_in trace s) (λ j e. read j (starts_filled j e)) k
         ∙ by_starts k)
 

@@ -6,10 +6,11 @@ use Rattle.machine.specs.declared.Slot.{Slot}
 use Rattle.machine.specs.declared.State.{State}
 use Rattle.machine.proofs.BySlots.{slot_after}
 use Rattle.record.specs.Rules.{instruction_of}
-use Rattle.standing.specs.declared.reading.Standing.{Standing}
+use Rattle.record.specs.declared.layout.Fields.{Fields}
+use Rattle.stages.specs.declared.Stages.{Stages}
 
 -- the kind in each stage, by the fields that are read; nothing stands in post
-abbrev pub kind_read : Standing → Stage → Kind
+abbrev pub kind_read : Stages Fields → Stage → Kind
 kind_read w pre = (instruction_of w.pre).kind
 kind_read w IF = (instruction_of w.IF).kind
 kind_read w ID = (instruction_of w.ID).kind

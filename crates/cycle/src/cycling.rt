@@ -2,24 +2,25 @@
 ghost use Rattle.std.specs.Prelude.{◌≡◌, cond, suc, ◌≤◌, length};
 ghost use Rattle.machine.specs.Instruction.{Trace};
 ghost use Rattle.machine.specs.Rules.{Stage};
-ghost use Rattle.machine.specs.Hits.{with_hits};
 ghost use Rattle.machine.specs.State.{max_instructions};
 ghost use Rattle.machine.proofs.BySlots.{occupied, leaves, arrives, slot_after, step_by_slots};
-ghost use Rattle.standing.specs.Inner.{Reads};
+ghost use Rattle.record.specs.Body.{trace_of, trace_with};
 ghost use Rattle.moving.specs.Inner.{bits_of, kind_in};
 ghost use Rattle.cycle.specs.Inner.{kind_read, standstill};
 
-use decode::{count_in_if, count_in_mem, count_in_st, kind, less};
-use machine::{Slot, State};
-use moving::{Bits, arriving, digits, leaving, mask, none};
+use decode::{count_in_if, count_in_mem, count_in_st, kind};
+use machine::{Kind, Slot, State};
+use moving::{Traffic, none};
+use record::Fields;
+use stages::Stages;
 use standing::Standing;
 use starting::starts;
 
 // Which stages are filled; pre while there is more to fetch.
-fn full(n: u32, s: State) -> Bits
+fn full(n: u32, s: State) -> Stages<bool>
     ensures { (trace : Trace) → length trace ≡ n → result ≡ bits_of (occupied trace s) }
 {
-    Bits {
+    Stages {
         pre: s.fetched < n,
         IF: s.IF.filled,
         ID: s.ID.filled,
@@ -31,18 +32,18 @@ fn full(n: u32, s: State) -> Bits
 }
 
 // The kinds of the instructions whose fields are read.
-fn kinds_read(w: Standing) -> u32
+fn kinds_read(w: Stages<Fields>) -> Stages<Kind>
     ensures { (k : Stage) → kind_in result k ≡ kind_read w k }
 {
-    digits(
-        kind(w.pre),
-        kind(w.IF),
-        kind(w.ID),
-        kind(w.EX),
-        kind(w.MEM),
-        kind(w.ST),
-        kind(w.WB),
-    )
+    Stages {
+        pre: kind(w.pre),
+        IF: kind(w.IF),
+        ID: kind(w.ID),
+        EX: kind(w.EX),
+        MEM: kind(w.MEM),
+        ST: kind(w.ST),
+        WB: kind(w.WB),
+    }
 }
 
 // A slot after the cycle: what comes in, else what stays, its count less 1, else nothing.
@@ -50,24 +51,12 @@ fn slot_after(arrives: bool, index: u32, count: u32, gone: bool, old: Slot) -> S
     ensures { result ≡ slot_after arrives index count gone old }
 {
     if arrives {
-        return Slot {
-            filled: true,
-            index,
-            count,
-        };
+        return Slot::holding(index, count);
     }
     if old.filled & !gone {
-        return Slot {
-            filled: true,
-            index: old.index,
-            count: less(old.count, 1),
-        };
+        return Slot::holding(old.index, old.count.saturating_sub(1));
     }
-    Slot {
-        filled: false,
-        index: 0,
-        count: 0,
-    }
+    Slot::EMPTY
 }
 
 fn fetched_after(fetches: bool, fetched: u32) -> u32
@@ -81,14 +70,19 @@ fn fetched_after(fetches: bool, fetched: u32) -> u32
 }
 
 // `moving` says which slots are left, `arriving` into which something comes from the slot before.
-fn slots_after(s: State, w: Standing, moving: Bits, arriving: Bits, hit_cycles: u32) -> State
-    requires { s.fetched ≤ max_instructions }
-    ensures { (trace : Trace) →
-        Reads trace s w →
-        moving ≡ bits_of (leaves trace s) →
-        arriving ≡ bits_of (arrives trace s) →
-        result ≡ step_by_slots (with_hits hit_cycles trace) s }
+fn slots_after(
+    standing: &Standing,
+    moving: Stages<bool>,
+    arriving: Stages<bool>,
+    hit_cycles: u32,
+) -> State
+    requires { standing.now.state.fetched ≤ max_instructions }
+    ensures { moving ≡ bits_of (leaves (trace_of standing.now.body.now) standing.now.state) →
+        arriving ≡ bits_of (arrives (trace_of standing.now.body.now) standing.now.state) →
+        result ≡ step_by_slots (trace_with standing.now.body.now hit_cycles) standing.now.state }
 {
+    let s = standing.state;
+    let w = standing.fields;
     State {
         fetched: fetched_after(moving.pre, s.fetched),
         IF: slot_after(arriving.IF, s.fetched, count_in_if(w.pre), moving.IF, s.IF),
@@ -127,16 +121,20 @@ fn all_stay(s: State) -> State
     }
 }
 
-// Of the trace whose instructions are read, where a data hit takes so many cycles.
-pub fn cycle(n: u32, s: State, w: Standing, hit_cycles: u32) -> State
-    requires { s.fetched ≤ max_instructions }
-    ensures { (trace : Trace) → Reads trace s w → length trace ≡ n → result ≡ step_by_slots (with_hits hit_cycles trace) s }
+// Of a trace of n instructions, where a data hit takes so many cycles.
+pub fn cycle(n: u32, standing: &Standing, hit_cycles: u32) -> State
+    requires { standing.now.state.fetched ≤ max_instructions }
+    ensures { length (trace_of standing.now.body.now) ≡ n → result ≡ step_by_slots (trace_with standing.now.body.now hit_cycles) standing.now.state }
 {
-    let starting = starts(n, s, w);
+    let starting = starts(n, standing);
     if none(starting) {
-        return all_stay(s);
+        return all_stay(standing.state);
     }
-    let kinds = kinds_read(w);
-    let moving = leaving(mask(starting), mask(full(n, s)), kinds);
-    slots_after(s, w, moving, arriving(moving, kinds), hit_cycles)
+    let traffic = Traffic {
+        going: starting,
+        full: full(n, standing.state),
+        kinds: kinds_read(standing.fields),
+    };
+    let moving = traffic.leaving();
+    slots_after(standing, moving, traffic.arriving(moving), hit_cycles)
 }

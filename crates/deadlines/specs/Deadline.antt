@@ -1,7 +1,6 @@
 -- A deadline as a word: one or more decimal digits, whose number fits 32 bits.
-use Rattle.std.specs.Prelude.{ℕ, ◌+◌, ◌*◌, ◌-◌, Bool, true, false, cond, List, [], ◌∷◌, ltb, leb, length}
+use Rattle.std.specs.Prelude.{ℕ, ◌+◌, ◌*◌, ◌-◌, Bool, true, cond, List, [], ◌∷◌, ltb, leb, length, Option, None, Some}
 use Rattle.machine.specs.Test.{◌and◌}
-use Rattle.deadlines.specs.declared.Deadline.{Deadline}
 
 -- `0` to `9`
 unfoldable pub is_digit : ℕ → Bool
@@ -19,8 +18,6 @@ number_from n (byte ∷ word) = number_from (10 * n + (byte - 48)) word
 unfoldable pub is_deadline : List ℕ → Bool
 is_deadline word = ltb 0 (length word) and all_digits word and ltb (number_from 0 word) 4294967296
 
-abbrev pub no_deadline : Deadline
-no_deadline = record { valid = false; cycles = 0 }
-
-unfoldable pub deadline_of : List ℕ → Deadline
-deadline_of word = cond (is_deadline word) (record { valid = true; cycles = number_from 0 word }) no_deadline
+-- that number, or that the word is none
+unfoldable pub deadline_of : List ℕ → Option ℕ
+deadline_of word = cond (is_deadline word) (Some (number_from 0 word)) None

@@ -8,9 +8,8 @@ ghost use Rattle.record.specs.Rules.{instruction_of};
 ghost use Rattle.record.specs.Body.{max_hit_cycles};
 ghost use Rattle.decode.specs.Inner.{AccessLawful};
 
-use crate::choice::{choose, less};
 use crate::kinds::{access_misses, fetch_misses, is_load, is_store};
-use record::Fields;
+use record::{Fields, choose};
 
 pub fn count_in_if(f: Fields) -> u32
     ensures { result ≡ entry (instruction_of f) IF }
@@ -34,7 +33,7 @@ pub fn count_in_st(f: Fields, hit_cycles: u32) -> u32
     ensures { result ≡ entry (with_hit hit_cycles (instruction_of f)) ST }
 {
     let hit = choose(is_load(f) | is_store(f), hit_cycles, 0);
-    choose(access_misses(f), less(f.data_latency, 1), hit)
+    choose(access_misses(f), f.data_latency.saturating_sub(1), hit)
 }
 
 // The last stage is ST for a store and WB for any other kind.

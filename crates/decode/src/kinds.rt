@@ -1,6 +1,6 @@
 // Kinds and flags by name, and what the rules ask of them.
 ghost use Rattle.std.specs.Prelude.{◌≡◌, ◌≤◌};
-ghost use Rattle.machine.specs.Named.{kind_named};
+ghost use Rattle.machine.specs.Named.{flag_named, kind_named};
 ghost use Rattle.machine.specs.Rules.{
   is_load,
   is_store,
@@ -11,51 +11,38 @@ ghost use Rattle.machine.specs.Rules.{
   reads_in_ID,
   misses_data,
 };
-ghost use Rattle.record.specs.Rules.{kind_number, kind_of, instruction_of};
+ghost use Rattle.record.specs.Rules.{flag_number, flag_of, kind_number, kind_of, instruction_of};
 
-use machine::Kind;
+use machine::{Flag, Kind};
 use record::Fields;
 
-// The numbers of the kinds.
-const PLAIN: u32 = 0;
-
-const LOAD: u32 = 1;
-
-const STORE: u32 = 2;
-
-const BRANCH: u32 = 3;
-
-const JUMP: u32 = 4;
-
-// The numbers of the flags that are known.
-pub const HIT: u32 = 0;
-
-pub const MISS: u32 = 1;
-
+// A kind's number in a record. The kinds are `machine`'s and their numbers the record's, so that no impl
+// of `From` could stand beside either.
 pub fn kind_number(kind: Kind) -> u32
     ensures { (result ≡ kind_number (kind_named kind)) × (kind_of result ≡ kind_named kind) × (result ≤ 7) }
 {
-    match kind {
-        Kind::Plain => PLAIN,
-        Kind::Load => LOAD,
-        Kind::Store => STORE,
-        Kind::Branch => BRANCH,
-        Kind::Jump => JUMP,
-    }
+    kind as u32
 }
 
-// A number that the rules refuse reads as plain.
+// A number that the rules refuse reads as plain, as the definition `kind_of` has it: there is no error to
+// give.
 pub fn kind_of(number: u32) -> Kind
     ensures { kind_named result ≡ kind_of number }
 {
     match number {
-        PLAIN => Kind::Plain,
-        LOAD => Kind::Load,
-        STORE => Kind::Store,
-        BRANCH => Kind::Branch,
-        JUMP => Kind::Jump,
+        1 => Kind::Load,
+        2 => Kind::Store,
+        3 => Kind::Branch,
+        4 => Kind::Jump,
         _ => Kind::Plain,
     }
+}
+
+// A flag's number in a record.
+pub fn flag_number(flag: Flag) -> u32
+    ensures { (result ≡ flag_number (flag_named flag)) × (flag_of result ≡ flag_named flag) }
+{
+    flag as u32
 }
 
 pub fn kind(f: Fields) -> Kind
@@ -67,44 +54,44 @@ pub fn kind(f: Fields) -> Kind
 pub fn is_load(f: Fields) -> bool
     ensures { result ≡ is_load (instruction_of f).kind }
 {
-    f.kind == LOAD
+    f.kind == kind_number(Kind::Load)
 }
 
 pub fn is_store(f: Fields) -> bool
     ensures { result ≡ is_store (instruction_of f).kind }
 {
-    f.kind == STORE
+    f.kind == kind_number(Kind::Store)
 }
 
 // Whether it holds back the fetches of all later ones.
 pub fn holds_fetches(f: Fields) -> bool
     ensures { result ≡ holds_fetches (instruction_of f).kind }
 {
-    (f.kind == BRANCH) | (f.kind == JUMP)
+    (f.kind == kind_number(Kind::Branch)) | (f.kind == kind_number(Kind::Jump))
 }
 
 pub fn fetch_hits(f: Fields) -> bool
     ensures { result ≡ hits (instruction_of f).fetch }
 {
-    f.fetch == HIT
+    f.fetch == flag_number(Flag::Hit)
 }
 
 pub fn fetch_misses(f: Fields) -> bool
     ensures { result ≡ misses (instruction_of f).fetch }
 {
-    f.fetch == MISS
+    f.fetch == flag_number(Flag::Miss)
 }
 
 pub fn access_hits(f: Fields) -> bool
     ensures { result ≡ hits (instruction_of f).access }
 {
-    f.access == HIT
+    f.access == flag_number(Flag::Hit)
 }
 
 pub fn access_misses(f: Fields) -> bool
     ensures { result ≡ misses (instruction_of f).access }
 {
-    f.access == MISS
+    f.access == flag_number(Flag::Miss)
 }
 
 // Whether it is a load or store with a data miss.

@@ -3,15 +3,14 @@
 // here; a cycle and the passes over a body ask these functions.
 #![tactic(auto)]
 
-pub mod choice;
 pub mod counts;
 pub mod kinds;
 pub mod waits;
 
-pub use choice::{choose, later, less};
 pub use counts::{count_in_if, count_in_last, count_in_mem, count_in_st, cycles_in_last};
 pub use kinds::{
-    HIT, MISS, access_hits, access_misses, fetch_hits, holds_fetches, is_load, is_store, kind,
+    access_hits, access_misses, fetch_hits, flag_number, holds_fetches, is_load, is_store, kind,
     kind_number, kind_of, misses_data, reads_in_id,
 };
+pub use record::choose;
 pub use waits::{pending, waits_for};

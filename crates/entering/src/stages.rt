@@ -18,7 +18,7 @@ ghost use Rattle.decode.specs.Inner.{AccessLawful};
 ghost use Rattle.entering.specs.Inner.{window_of};
 
 use decode::{
-    access_misses, choose, count_in_if, count_in_mem, cycles_in_last, fetch_hits, is_store, later,
+    access_misses, choose, count_in_if, count_in_mem, cycles_in_last, fetch_hits, is_store,
     reads_in_id,
 };
 use record::Fields;
@@ -48,15 +48,15 @@ pub struct Window {
 pub fn enter_if(w: Window, f: Fields) -> u32
     ensures { result ≡ enter_IF (window_of w) (instruction_of f) }
 {
-    let data = choose(fetch_hits(f), 0, later(w.load_done, w.store_done));
-    later(w.next_fetch, data)
+    let data = choose(fetch_hits(f), 0, w.load_done.max(w.store_done));
+    w.next_fetch.max(data)
 }
 
 pub fn enter_id(w: Window, f: Fields, from: u32) -> u32
     requires { from + entry (instruction_of f) IF + 1 < 2 ^ 32 }
     ensures { result ≡ enter_ID (window_of w) (instruction_of f) from }
 {
-    later(from + (count_in_if(f) + 1), w.EX)
+    (from + (count_in_if(f) + 1)).max(w.EX)
 }
 
 // A load directly before is done in MEM when it enters WB.
@@ -65,7 +65,7 @@ pub fn enter_ex(w: Window, f: Fields, from: u32) -> u32
     ensures { result ≡ enter_EX (window_of w) (instruction_of f) from }
 {
     let free = choose(reads_in_id(f, w.load_target), w.last, w.MEM);
-    later(from + 1, free)
+    (from + 1).max(free)
 }
 
 // An access that misses is a load's or a store's, by the record rules. A store's second source is
@@ -76,17 +76,15 @@ pub fn enter_mem(w: Window, f: Fields, from: u32) -> u32
     ensures { result ≡ enter_MEM (window_of w) (instruction_of f) from }
 {
     let store = choose(access_misses(f), w.store_done, 0);
-    later(from + (f.execution + 1), later(w.last, store))
+    (from + (f.execution + 1)).max(w.last.max(store))
 }
 
 pub fn enter_last(w: Window, f: Fields, from: u32, hit_cycles: u32) -> u32
     requires { from + entry (with_hit hit_cycles (instruction_of f)) MEM + 1 < 2 ^ 32 }
     ensures { result ≡ enter_last (window_of w) (with_hit hit_cycles (instruction_of f)) from }
 {
-    later(
-        from + (count_in_mem(f, hit_cycles) + 1),
-        choose(is_store(f), w.store_done, 0),
-    )
+    let store = choose(is_store(f), w.store_done, 0);
+    (from + (count_in_mem(f, hit_cycles) + 1)).max(store)
 }
 
 pub fn enter_post(f: Fields, from: u32, hit_cycles: u32) -> u32

@@ -2,47 +2,33 @@
 // are pairs, a job file and its chart.
 #![tactic(auto)]
 
-ghost use Rattle.std.specs.Prelude.{◌≤◌, length};
-
 use chart_text::{CHART_BYTES, draw};
-use reading::{WORD_BYTES, arg_count, read_full};
+use reading::{INPUT_BYTES, WORD_BYTES, arg_count, argument, read_part};
 use std::fs::File;
 use std::io;
 use std::rt::{Env, Files};
 
-// Reads the file that argument i names to the start of `into`, and gives its length.
-fn read_named(rt: &(impl Env + Files), i: usize, into: &mut [u8]) -> usize
-    ensures { result ≤ length into.new }
-{
+// What the file that argument i names holds, as far as the room that is lent reaches.
+fn read_named<'a>(rt: &(impl Env + Files), i: usize, room: &'a mut [u8]) -> Option<&'a [u8]> {
     let mut word = [0u8; WORD_BYTES];
-    let Ok(n) = rt.arg(i, &mut word) else {
-        return 0;
-    };
-    let Ok(path) = str::from_utf8(&word[..n]) else {
-        return 0;
-    };
-    match File::open(rt, path) {
-        Ok(mut file) => read_full(&mut file, into),
-        Err(_) => 0,
-    }
+    let path = str::from_utf8(argument(rt, i, &mut word)?).ok()?;
+    let mut file = File::open(rt, path).ok()?;
+    Some(read_part(&mut file, room))
 }
 
 fn print_arg(rt: &(impl Env + Print), i: usize) -> io::Result<()> {
-    let mut name = [0u8; WORD_BYTES];
-    match rt.arg(i, &mut name) {
-        Ok(n) => rt.write_all(&name[..n]),
-        Err(_) => Ok(()),
-    }
+    let mut word = [0u8; WORD_BYTES];
+    rt.write_all(argument(rt, i, &mut word).unwrap_or(&[]))
 }
 
 fn agrees(rt: &(impl Env + Files), i: usize, chart: usize) -> bool {
-    let mut file = [0u8; 65537];
-    let mut expected = [0u8; CHART_BYTES];
+    let mut job = [0u8; INPUT_BYTES];
+    let mut drawn = [0u8; CHART_BYTES];
     let mut text = [0u8; CHART_BYTES];
-    let length = read_named(rt, i, &mut file);
-    let all = read_named(rt, chart, &mut expected);
-    let end = draw(&file[..length], &mut text);
-    text[..end] == expected[..all]
+    let file = read_named(rt, i, &mut job).unwrap_or(&[]);
+    let expected = read_named(rt, chart, &mut drawn).unwrap_or(&[]);
+    let end = draw(file, &mut text);
+    &text[..end] == expected
 }
 
 fn tell(rt: &(impl Env + Files + Print), i: usize, chart: usize) -> io::Result<()> {

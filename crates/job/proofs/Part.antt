@@ -1,28 +1,25 @@
--- The part of the file that `locate`'s answer names is the body that Open hands back, in its place: an accepted body lies in its file, and a
--- refusal names an empty part. Such a body is accepted, and is bytes.
+-- The part of the file that `locate` names is the body that Open hands back, in its place: an accepted body lies in its file. Such a body is
+-- accepted, and is bytes.
 use Prim.Native.Nat.{ℕ, suc, ◌*◌, ◌-◌, ◌<◌, ◌≤◌, ◌/◌, ◌%◌}
 use mathlib.Core.Bool.{Bool, true, false}
 use mathlib.Core.List.{List, []}
 use mathlib.Core.Path.{◌≡◌, refl, sym, ap, subst, ◌∙◌}
-use borrow.Author.Tests.{ltb-true, le-leb, eqb-true, eq-eqb}
+use borrow.Author.Tests.{ltb-true, le-leb, eqb-true, eq-eqb, ne_eqb}
 use native.Mathlib.Decide.{dec_lt}
 use native.Mathlib.Nat.{add-sub_cancel_left}
 use native.Mathlib.Omega.{arith}
 use lib.Dec.{eqb}
 use lib.ListN.{length, take, drop, get_or-eq_default}
 use lib.Seq.{get_or-take, get_or-drop}
-use denote.Ref.{Bor}
 use Rattle.machine.specs.State.{max_instructions}
-use Rattle.record.specs.Part.{StartsAt}
 use Rattle.record.specs.Layout.{record_size}
 use Rattle.record.specs.Refusal.{◌unless◌}
 use Rattle.little_endian.specs.Numbers.{byte}
 use Rattle.record.specs.Body.{Bytes, length_refusal, record_refusal, body_refusal}
 use Rattle.record.proofs.Refusals.{then_first, then_second, then_none, unless_passed}
 use Rattle.job.specs.Layout.{traces, count_at, start_at, body_at}
-use Rattle.job.specs.Open.{traces_refusal, file_refusal, open_refusal, open_body, bounds_at, locate_answer, part_of}
+use Rattle.job.specs.Open.{Located, traces_refusal, file_refusal, open_refusal, open_body, bounds_at, locate_answer}
 use Rattle.job.specs.declared.table.Bounds.{Bounds}
-use Rattle.job.specs.declared.table.Located.{Located}
 use Rattle.job.proofs.Accepted.{file_fine, open_accepted}
 use Rattle.job.proofs.Entries.{start_suc}
 use Rattle.job.proofs.First.{first_at}
@@ -51,10 +48,11 @@ module _ (file : List ℕ) (trace : ℕ) where
   unfolding open_refusal
   opened_trace e = ltb-true _ _ (unless_passed _ _ (then_second _ _ e))
 
-  part_body : open_refusal file trace ≡ 0 → part_of file (start_at file trace) (start_at file (suc trace)) ≡ body_at file trace
-  unfolding part_of
-  part_body e =
-      rw (le-leb _ _ (body_lies file trace (opened_file e) (opened_trace e)).1) (body_between file trace)
+  found_there
+      : open_refusal file trace ≡ 0 →
+      locate_answer file trace ≡ record { refusal = 0; start = start_at file trace; end = start_at file (suc trace) }
+  unfolding locate_answer
+  found_there e = rw (eq-eqb (open_refusal file trace) 0 e)
 
   pub bounds_lie
       : file_refusal file ≡ 0 → trace < traces file → (b : Bounds) → b ≡ bounds_at file trace →
@@ -74,26 +72,26 @@ module _ (file : List ℕ) (trace : ℕ) where
       ∙ body_between file trace
       ∙ rw (eq-eqb _ _ (open_accepted file trace accepted below)) refl
 
-  part_none : part_of file 0 0 ≡ []
-  unfolding part_of
-  part_none = rw (le-leb 0 (length file) (omega arith))
+  -- a refusal hands back no bytes
+  pub no_body : (open_refusal file trace ≡ 0 → ⊥) → open_body file trace ≡ []
+  unfolding open_body
+  no_body refused = rw (ne_eqb (open_refusal file trace) 0 refused)
 
-  by_refusal
-      : (accepts : Bool) → eqb (open_refusal file trace) 0 ≡ accepts →
-      ((locate_answer file trace).refusal ≡ open_refusal file trace)
-      × (part_of file (locate_answer file trace).start (locate_answer file trace).end ≡ open_body file trace)
-  unfolding locate_answer open_body
-  by_refusal true e = rw e (sym (eqb-true _ _ e), part_body (eqb-true _ _ e))
-  by_refusal false e = rw e (refl, part_none)
+  -- what `locate` answers: Open's refusal; where there is none, where the body that it hands back lies
+  refusal_said : (locate_answer file trace).refusal ≡ open_refusal file trace
+  unfolding locate_answer
+  refusal_said = by_refusal (eqb (open_refusal file trace) 0) refl
+    where
+      by_refusal : (accepts : Bool) → eqb (open_refusal file trace) 0 ≡ accepts → (locate_answer file trace).refusal ≡ open_refusal file trace
+      by_refusal true e = rw e (sym (eqb-true _ _ e))
+      by_refusal false e = rw e refl
 
-  pub located
-      : (l : Located) → l ≡ locate_answer file trace →
-      (l.refusal ≡ open_refusal file trace) × (part_of file l.start l.end ≡ open_body file trace)
-  located l e =
-      subst
-      (λ (x : Located). (x.refusal ≡ open_refusal file trace) × (part_of file x.start x.end ≡ open_body file trace))
-      (sym e)
-      (by_refusal _ refl)
+  pub said_refusal : (l : Located) → l ≡ locate_answer file trace → l.refusal ≡ open_refusal file trace
+  said_refusal l e = ap (λ (x : Located). x.refusal) e ∙ refusal_said
+
+  pub said_bounds : (l : Located) → l ≡ locate_answer file trace → l.refusal ≡ 0 → (record { start = l.start; end = l.end }) ≡ bounds_at file trace
+  said_bounds l e passes =
+      ap (λ (x : Located). record { start = x.start; end = x.end }) (e ∙ found_there (sym (said_refusal l e) ∙ passes))
 
   -- the body that Open hands back is accepted: neither 10 nor 8 refuses it
   pub opened_accepted : open_refusal file trace ≡ 0 → body_refusal (open_body file trace) ≡ 0
@@ -118,25 +116,3 @@ module _ (file : List ℕ) (trace : ℕ) where
       part_byte (no h) =
           let whole = body_length file (file_fine file (opened_file e)).ends trace (opened_trace e) in
           rw (get_or-eq_default (body_at file trace) 0 {n = k} (omega arith)) (omega arith)
-
-module _ (whole part : Bor (List ℕ)) (trace : ℕ) where
-  found
-      : open_refusal whole.now trace ≡ 0 →
-      locate_answer whole.now trace ≡ record { refusal = 0; start = start_at whole.now trace; end = start_at whole.now (suc trace) }
-  unfolding locate_answer
-  found e = rw (eq-eqb (open_refusal whole.now trace) 0 e)
-
-  -- a part that is cut out where `locate` says starts where the body does
-  pub placed
-      : (l : Located) → l ≡ locate_answer whole.now trace →
-      (l.start ≤ l.end → l.end ≤ length whole.now → StartsAt whole l.start part) →
-      open_refusal whole.now trace ≡ 0 →
-      StartsAt whole (start_at whole.now trace) part
-  placed l e cut z =
-      let lies = body_lies whole.now trace (opened_file whole.now trace z) (opened_trace whole.now trace z) in
-      subst
-      (λ (x : Located). (x.start ≤ x.end → x.end ≤ length whole.now → StartsAt whole x.start part))
-      (e ∙ found z)
-      cut
-      lies.0
-      lies.1

@@ -1,11 +1,12 @@
 -- What Open answers: document 01, "What each call does and when it declines".
-use Rattle.std.specs.Prelude.{ℕ, suc, ◌-◌, cond, List, [], ltb, leb, eqb, length, take, drop}
+use Rattle.std.specs.Prelude.{ℕ, suc, ◌-◌, cond, List, [], Result, Ok, Err, ltb, leb, eqb, length, take, drop}
 use Rattle.record.specs.Refusal.{◌then◌, ◌unless◌, out_of_range}
 use Rattle.record.specs.Body.{record_refusal}
+use Rattle.record.specs.Number.{number}
+use Rattle.record.specs.declared.refusal.Refusal.{Refusal}
 use Rattle.job.specs.Refusal.{too_long, too_short, too_many_traces, cut_table, large_count, wrong_offset, wrong_end, first_refusal}
 use Rattle.job.specs.Layout.{header_size, max_traces, traces, max_count, entry_at, offset_at, count_at, max_file, start_at, body_at}
 use Rattle.job.specs.declared.table.Bounds.{Bounds}
-use Rattle.job.specs.declared.table.Located.{Located}
 
 -- "Then entry by entry, 5 count above 4,096, 6 wrong offset."
 unfoldable pub entry_refusal : List ℕ → ℕ → ℕ
@@ -45,6 +46,17 @@ open_body file trace = cond (eqb (open_refusal file trace) 0) (body_at file trac
 -- where the body of trace t starts and ends
 abbrev pub bounds_at : List ℕ → ℕ → Bounds
 bounds_at file t = record { start = start_at file t; end = start_at file (suc t) }
+
+-- refusal, start and end by value
+pub record Located : Type 0 where
+  pub refusal : ℕ
+  pub start : ℕ
+  pub end : ℕ
+
+-- where a body stands, or why there is none, as one answer
+abbrev pub located : Result Bounds Refusal → Located
+located (Ok b) = record { refusal = 0; start = b.start; end = b.end }
+located (Err r) = record { refusal = number r; start = 0; end = 0 }
 
 -- what Open answers, by value: a refusal with zeros, or 0 and the bounds
 unfoldable pub locate_answer : List ℕ → ℕ → Located

@@ -1,7 +1,6 @@
 // The job file: its checks, and where a trace's body stands in it.
 #![tactic(auto)]
 
-pub mod refusal;
 pub mod table;
 
-pub use table::{Located, file_refusal, locate};
+pub use table::{Bounds, check_file, locate};

@@ -1,22 +1,21 @@
 // Finding a trace's body in a job file, after every check of the file.
-ghost use Rattle.std.specs.Prelude.{◌≡◌, ◌+◌, ◌*◌, ◌<◌, ◌≤◌, length};
+ghost use Rattle.std.specs.Prelude.{◌≡◌, ◌<◌, ◌≤◌, IfOk};
+ghost use Rattle.record.specs.Number.{refusal_in};
 ghost use Rattle.job.specs.Layout.{traces, max_traces, start_at};
 ghost use Rattle.job.specs.Open.{
   table_refusal,
   entries_refusal,
   file_refusal,
   bounds_at,
+  located,
   locate_answer,
 };
 
-use crate::refusal::{
-    CUT_TABLE, LARGE_COUNT, TOO_LONG, TOO_MANY_TRACES, TOO_SHORT, WRONG_END, WRONG_OFFSET,
-};
-use acceptance::record_refusal;
+use acceptance::check_records;
 use little_endian::{half, word};
 use machine::State;
 use record::layout::RECORD_SIZE;
-use record::refusal::OUT_OF_RANGE;
+use record::refusal::Refusal;
 
 // The header is the count of traces; an entry is an offset and a count of instructions.
 pub const HEADER_SIZE: u32 = 2;
@@ -30,91 +29,65 @@ pub const MAX_TRACES: u32 = 16;
 pub const RECORD_BYTES: u32 = RECORD_SIZE as u32;
 
 // Where a body starts and ends in its file.
-#[derive(Clone, Copy, Drop)]
+#[derive(Clone, Copy, Debug, PartialEq, Eq, Drop)]
 pub struct Bounds {
     pub start: usize,
     pub end: usize,
 }
 
-// A refusal's number and zeros, or 0 and the bounds.
-#[repr(C)]
-#[derive(Clone, Copy, Drop)]
-pub struct Located {
-    pub refusal: u32,
-    pub start: usize,
-    pub end: usize,
-}
-
-#[derive(Clone, Copy, Drop)]
-struct Entries {
-    refusal: u32,
-    end: u32,
-}
-
 // 1 to 4: the table is there.
-fn table_refusal(file: &[u8]) -> u32
-    ensures { result ≡ table_refusal file.now }
+fn check_table(file: &[u8]) -> Result<(), Refusal>
+    ensures { refusal_in result ≡ table_refusal file.now }
 {
     if file.len() > State::MAX_FILE_BYTES as usize {
-        return TOO_LONG;
+        return Err(Refusal::TooLong);
     }
     if file.len() < HEADER_SIZE as usize {
-        return TOO_SHORT;
+        return Err(Refusal::TooShort);
     }
     let count = half(file, 0);
     if count > MAX_TRACES {
-        return TOO_MANY_TRACES;
+        return Err(Refusal::TooManyTraces);
     }
     if file.len() < (HEADER_SIZE + ENTRY_SIZE * count) as usize {
-        return CUT_TABLE;
+        return Err(Refusal::CutTable);
     }
-    0
+    Ok(())
 }
 
 // 5 and 6, entry by entry; and where the last body ends.
-fn entries_of(file: &[u8], count: u32) -> Entries
+fn check_entries(file: &[u8], count: u32) -> Result<u32, Refusal>
     requires { (count ≡ traces file.now) × (count ≤ max_traces) }
-    ensures { (result.refusal ≡ entries_refusal file.now) × (result.refusal ≡ 0 → result.end ≡ start_at file.now count) }
+    ensures refusal { refusal_in result ≡ entries_refusal file.now }
+    ensures end { IfOk result (λ end. end ≡ start_at file.now count) }
 {
     let mut end = HEADER_SIZE + ENTRY_SIZE * count;
     for t in 0..count {
         let at = HEADER_SIZE + ENTRY_SIZE * t;
         let instructions = half(file, at + COUNT_IN_ENTRY);
         if instructions > State::MAX_INSTRUCTIONS {
-            return Entries {
-                refusal: LARGE_COUNT,
-                end: 0,
-            };
+            return Err(Refusal::LargeCount);
         }
         if word(file, at) != end {
-            return Entries {
-                refusal: WRONG_OFFSET,
-                end: 0,
-            };
+            return Err(Refusal::WrongOffset);
         }
         end += RECORD_BYTES * instructions;
     }
-    Entries { refusal: 0, end }
+    Ok(end)
 }
 
 // 1 to 8: everything that can decline a file, whichever trace is asked for.
-pub fn file_refusal(file: &[u8]) -> u32
-    ensures { result ≡ file_refusal file.now }
+pub fn check_file(file: &[u8]) -> Result<(), Refusal>
+    ensures { refusal_in result ≡ file_refusal file.now }
 {
-    let table = table_refusal(file);
-    if table != 0 {
-        return table;
-    }
+    check_table(file)?;
     let count = half(file, 0);
-    let entries = entries_of(file, count);
-    if entries.refusal != 0 {
-        return entries.refusal;
-    }
-    if file.len() != entries.end as usize {
-        return WRONG_END;
+    let end = check_entries(file, count)?;
+    if file.len() != end as usize {
+        return Err(Refusal::WrongEnd);
     }
     let first = (HEADER_SIZE + ENTRY_SIZE * count) as usize;
-    record_refusal(&file[first..])
+    check_records(&file[first..])
 }
 
 // For callers that have checked the file; no call of the engine's.
@@ -131,28 +104,13 @@ pub fn bounds_of(file: &[u8], trace: u32) -> Bounds
     }
 }
 
-pub fn locate(file: &[u8], trace: u32) -> Located
-    ensures { result ≡ locate_answer file.now trace }
+// Where a trace's body stands, if the file is accepted and has that trace.
+pub fn locate(file: &[u8], trace: u32) -> Result<Bounds, Refusal>
+    ensures { located result ≡ locate_answer file.now trace }
 {
-    let refusal = file_refusal(file);
-    if refusal != 0 {
-        return Located {
-            refusal,
-            start: 0,
-            end: 0,
-        };
-    }
+    check_file(file)?;
     if trace >= half(file, 0) {
-        return Located {
-            refusal: OUT_OF_RANGE,
-            start: 0,
-            end: 0,
-        };
+        return Err(Refusal::OutOfRange);
     }
-    let bounds = bounds_of(file, trace);
-    Located {
-        refusal: 0,
-        start: bounds.start,
-        end: bounds.end,
-    }
+    Ok(bounds_of(file, trace))
 }

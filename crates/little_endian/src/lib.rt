@@ -4,17 +4,11 @@
 ghost use Rattle.std.specs.Prelude.{◌≡◌, ◌+◌, ◌<◌, ◌≤◌, ◌^◌, ◌++◌, length, take, drop};
 ghost use Rattle.little_endian.specs.Numbers.{byte, half, word, half_bytes, word_bytes};
 
-fn wide(x: u8) -> u32
-    ensures { (result ≡ x) × (result < 256) }
-{
-    x as u32
-}
-
 pub fn byte_at(bytes: &[u8], at: usize) -> u32
     requires { at < length bytes.now }
     ensures { (result ≡ byte bytes.now at) × (result < 256) }
 {
-    wide(bytes[at])
+    u32::from(bytes[at])
 }
 
 // Two bytes, the low one first.
@@ -22,7 +16,7 @@ pub fn half_at(bytes: &[u8], at: usize) -> u32
     requires { at + 1 < length bytes.now }
     ensures { (result ≡ half bytes.now at) × (result < 65536) }
 {
-    byte_at(bytes, at) + 256 * byte_at(bytes, at + 1)
+    u32::from(u16::from_le_bytes([bytes[at], bytes[at + 1]]))
 }
 
 // The same for any bytes: a byte past the end reads as 0.
@@ -30,11 +24,13 @@ pub fn byte(bytes: &[u8], at: usize) -> u32
     ensures { (result ≡ byte bytes.now at) × (result < 256) }
 {
     if at < bytes.len() {
-        return byte_at(bytes, at);
+        byte_at(bytes, at)
+    } else {
+        0
     }
-    0
 }
 
+// From a place of 32 bits on, so that the places after it cannot overflow.
 pub fn half(bytes: &[u8], at: u32) -> u32
     ensures { (result ≡ half bytes.now at) × (result < 65536) }
 {
@@ -46,10 +42,7 @@ pub fn word(bytes: &[u8], at: u32) -> u32
     ensures { (result ≡ word bytes.now at) × (result < 2 ^ 32) }
 {
     let i = at as usize;
-    byte(bytes, i)
-        + 256 * byte(bytes, i + 1)
-        + 65536 * byte(bytes, i + 2)
-        + 16777216 * byte(bytes, i + 3)
+    half(bytes, at) + 65536 * (byte(bytes, i + 2) + 256 * byte(bytes, i + 3))
 }
 
 // The same two bytes and four bytes written; the other bytes of the output stay.
@@ -57,16 +50,12 @@ pub fn put_half(out: &mut [u8], at: usize, n: u32)
     requires { (at + 2 ≤ length out.old) × (n < 65536) }
     ensures { out.new ≡ take at out.old ++ half_bytes n ++ drop (at + 2) out.old }
 {
-    out[at] = (n % 256) as u8;
-    out[at + 1] = (n / 256) as u8;
+    out[at..at + 2].copy_from_slice(&(n as u16).to_le_bytes());
 }
 
 pub fn put_word(out: &mut [u8], at: usize, n: u32)
     requires { at + 4 ≤ length out.old }
     ensures { out.new ≡ take at out.old ++ word_bytes n ++ drop (at + 4) out.old }
 {
-    out[at] = (n % 256) as u8;
-    out[at + 1] = (n / 256 % 256) as u8;
-    out[at + 2] = (n / 65536 % 256) as u8;
-    out[at + 3] = (n / 16777216) as u8;
+    out[at..at + 4].copy_from_slice(&n.to_le_bytes());
 }

@@ -15,6 +15,7 @@ pub mod Flow
 pub mod StepOrderly
 pub mod Step
 pub mod Masks
+pub mod Names
 pub mod Numbers
 pub mod Schedule
 pub mod Levels

@@ -1,5 +1,5 @@
--- The cycle by slots, for code that keeps a bit for each stage in a mask, at the stage's number, pre 0 to post 7, and compares stages by it.
-use Prim.Native.Nat.{ℕ, zero, suc, ◌+◌, ◌*◌, ◌^◌, ◌/◌, ◌%◌, ◌≤◌, ◌<◌}
+-- The cycle by slots, for code that keeps a bit for each stage in a mask, at the stage's number, pre 0 to post 7.
+use Prim.Native.Nat.{ℕ, zero, suc, ◌+◌, ◌*◌, ◌^◌, ◌/◌, ◌%◌, ◌≤◌}
 use native.Mathlib.Omega.{arith}
 use mathlib.Core.Bool.{Bool, true, false, not}
 use mathlib.Core.Path.{◌≡◌, refl, sym, ap, ap₂, ◌∙◌}
@@ -8,8 +8,8 @@ use Rattle.machine.specs.Test.{◌and◌, ◌or◌}
 use Rattle.machine.specs.Instruction.{Kind, Trace}
 use Rattle.machine.specs.Rules.{Stage, pre, IF, ID, EX, MEM, ST, WB, post, next, same, further, short_of}
 use Rattle.machine.specs.declared.State.{State}
-use Rattle.machine.proofs.Connectives.{true_and, or_l, or_r, and_failed_l}
-use Rattle.machine.proofs.Stages.{stage_number, stage_at, eight}
+use Rattle.machine.proofs.Connectives.{true_and, or_l, or_r, and_failed_l, clash}
+use Rattle.machine.proofs.Stages.{stage_number, eight}
 use Rattle.machine.proofs.Doing.{Does, holding, loading, storing, nothing, does}
 use Rattle.machine.proofs.Hazards.{goal_of, goal, pending_to, pending}
 use Rattle.machine.proofs.BySlots.{standing, goes, occupied, moves_at, free_at, moves_at_lem, free_at_lem}
@@ -113,23 +113,20 @@ pub occupied_post : (trace : Trace) (s : State) → occupied trace s post ≡ fa
 unfolding occupied standing
 occupied_post trace s = refl
 
--- Pending, by numbers: the stage that an instruction of the kind has to reach with count 0.
-abbrev pub goal_number : Kind → ℕ
-goal_number kind = stage_number (goal kind)
+-- Pending, by the stages' numbers: what is short of the stage that an instruction of the kind has to reach with count 0.
+abbrev pub short_number : Stage → Stage → ℕ → Bool
+short_number to k c = ltb (stage_number k) (stage_number to) or (same k to and ltb 0 c)
 
-abbrev pub short_number : ℕ → ℕ → ℕ → Bool
-short_number goal n c = ltb n goal or (eqb n goal and ltb 0 c)
-
--- for a stage that has a slot
-module _ (n c : ℕ) (l : n ≤ 7) (p : 0 < n) where
-  short_number_lem : {h l s : Bool} → Does h l s → pending_to (goal_of h l s) (record { stage = stage_at n; count = c }) ≡ short_number (stage_number (goal_of h l s)) n c
+-- past pre
+module _ (k : Stage) (c : ℕ) (p : same k pre ≡ false) where
+  short_number_lem : {h l s : Bool} → Does h l s → pending_to (goal_of h l s) (record { stage = k; count = c }) ≡ short_number (goal_of h l s) k c
   unfolding short_of further ◌and◌ ◌or◌
-  short_number_lem holding = up_to (λ n. short_of (record { stage = stage_at n; count = c }) EX 0 ≡ short_number 3 n c) refl refl refl refl refl refl refl refl n l
-  short_number_lem loading = up_to (λ n. short_of (record { stage = stage_at n; count = c }) MEM 0 ≡ short_number 4 n c) refl refl refl refl refl refl refl refl n l
-  short_number_lem storing = up_to (λ n. short_of (record { stage = stage_at n; count = c }) ST 0 ≡ short_number 5 n c) refl refl refl refl refl refl refl refl n l
+  short_number_lem holding = eight (λ k. short_of (record { stage = k; count = c }) EX 0 ≡ short_number EX k c) refl refl refl refl refl refl refl refl k
+  short_number_lem loading = eight (λ k. short_of (record { stage = k; count = c }) MEM 0 ≡ short_number MEM k c) refl refl refl refl refl refl refl refl k
+  short_number_lem storing = eight (λ k. short_of (record { stage = k; count = c }) ST 0 ≡ short_number ST k c) refl refl refl refl refl refl refl refl k
   short_number_lem nothing =
-      up_to (λ n. 0 < n → false ≡ short_number 0 n c)
-      (λ p. absurd (omega arith))
+      eight (λ k. same k pre ≡ false → false ≡ short_number pre k c)
+      (λ p. clash refl p)
       (λ p. refl)
       (λ p. refl)
       (λ p. refl)
@@ -137,10 +134,9 @@ module _ (n c : ℕ) (l : n ≤ 7) (p : 0 < n) where
       (λ p. refl)
       (λ p. refl)
       (λ p. refl)
-      n
-      l
+      k
       p
 
-  pub pending_number : (kind : Kind) → pending kind (record { stage = stage_at n; count = c }) ≡ short_number (goal_number kind) n c
+  pub pending_number : (kind : Kind) → pending kind (record { stage = k; count = c }) ≡ short_number (goal kind) k c
   unfolding pending goal
   pending_number kind = short_number_lem (does kind)

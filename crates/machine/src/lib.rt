@@ -2,7 +2,7 @@
 // between pre and post holds. The starting state and the limits belong to it.
 #![tactic(auto)]
 
-ghost use Rattle.std.specs.Prelude.{◌≡◌};
+ghost use Rattle.std.specs.Prelude.{◌≡◌, true};
 ghost use Rattle.machine.specs.State.{start};
 
 pub mod stage;
@@ -10,7 +10,7 @@ pub mod stage;
 pub use stage::Stage;
 
 // The kinds of instruction; a branch is a conditional one, and a jump may write a register.
-#[derive(Clone, Copy, Drop)]
+#[derive(Clone, Copy, Debug, PartialEq, Eq, Hash, Drop)]
 pub enum Kind {
     Plain,
     Load,
@@ -19,18 +19,45 @@ pub enum Kind {
     Jump,
 }
 
-// A stage's slot: empty (index and count 0), or an instruction's index with its remaining count.
+// Whether a fetch or a data access hits; one that is not known may do either.
+#[derive(Clone, Copy, Debug, PartialEq, Eq, Hash, Drop)]
+pub enum Flag {
+    Hit,
+    Miss,
+    Unknown,
+}
+
+// A stage's slot: empty (index and count 0), or an instruction's index with its remaining count. `filled`
+// stands beside them, in place of an Option, since C has this struct (`sic_slot`).
 #[repr(C)]
-#[derive(Clone, Copy, Drop)]
+#[derive(Clone, Copy, Debug, PartialEq, Eq, Hash, Drop)]
 pub struct Slot {
     pub filled: bool,
     pub index: u32,
     pub count: u32,
 }
 
+impl Slot {
+    pub const EMPTY: Slot = Slot {
+        filled: false,
+        index: 0,
+        count: 0,
+    };
+
+    pub fn holding(index: u32, count: u32) -> Slot
+        ensures { result ≡ record { filled = true; index = index; count = count } }
+    {
+        Slot {
+            filled: true,
+            index,
+            count,
+        }
+    }
+}
+
 // Instructions below `fetched` have left pre; those of them that are in no slot are in post.
 #[repr(C)]
-#[derive(Clone, Copy, Drop)]
+#[derive(Clone, Copy, Debug, PartialEq, Eq, Hash, Drop)]
 pub struct State {
     pub fetched: u32,
     pub IF: Slot,
@@ -51,19 +78,14 @@ impl State {
     pub fn start() -> State
         ensures { result ≡ start }
     {
-        let empty = Slot {
-            filled: false,
-            index: 0,
-            count: 0,
-        };
         State {
             fetched: 0,
-            IF: empty,
-            ID: empty,
-            EX: empty,
-            MEM: empty,
-            ST: empty,
-            WB: empty,
+            IF: Slot::EMPTY,
+            ID: Slot::EMPTY,
+            EX: Slot::EMPTY,
+            MEM: Slot::EMPTY,
+            ST: Slot::EMPTY,
+            WB: Slot::EMPTY,
         }
     }
 }

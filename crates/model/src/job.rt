@@ -1,160 +1,113 @@
 // Job files: the refusals of Open and of Write, each in the document's order.
-ghost use Rattle.std.specs.Prelude.{◌≤◌, ◌<◌, ◌*◌, length};
+ghost use Rattle.std.specs.Prelude.{◌≤◌, ◌<◌, length};
 
-use super::body::some_breaks;
-use super::trace::{RECORD, pair};
+use super::body::check_records;
+use super::refusal::Refusal;
+use super::trace::{MOST, RECORD};
+use std::ops::Range;
 
 const LONGEST_FILE: usize = 65536;
 
-const MOST_TRACES: u32 = 16;
+const MOST_TRACES: usize = 16;
 
-const MOST_RECORDS: u32 = 4096;
+// Bytes of the count of traces, and of an entry of the table.
+const COUNT: usize = 2;
 
-// A refusal, or 0 and the body as a part of the file; a refusal has an empty part.
-#[derive(Clone, Copy, Drop)]
-pub struct Opened {
-    pub refusal: u32,
-    pub start: usize,
-    pub length: usize,
+const ENTRY: usize = 6;
+
+// "A four-byte offset from the file's start and a two-byte instruction count."
+struct Entry {
+    offset: usize,
+    count: usize,
 }
 
-// Four bytes, little endian.
-fn four(file: &[u8], at: usize) -> u32
-    requires { at < 65536 }
-{
-    pair(file, at) + 65536 * pair(file, at + 2)
-}
-
-// The table's k-th entry.
-fn entry(k: u32) -> usize
-    requires { k ≤ 16 }
-    ensures { result < 128 }
-{
-    (2 + 6 * k) as usize
-}
-
-fn offset(file: &[u8], k: u32) -> u32
-    requires { k ≤ 16 }
-{
-    four(file, entry(k))
-}
-
-fn records(file: &[u8], k: u32) -> u32
-    requires { k ≤ 16 }
-    ensures { result < 65536 }
-{
-    pair(file, entry(k) + 4)
+impl Entry {
+    fn read(entry: &[u8; ENTRY]) -> Entry
+        ensures { (result.offset < 4294967296) × (result.count < 65536) }
+    {
+        let [a, b, c, d, low, high] = *entry;
+        Entry {
+            offset: u32::from_le_bytes([a, b, c, d]) as usize,
+            count: usize::from(u16::from_le_bytes([low, high])),
+        }
+    }
 }
 
 // "Entry by entry, 5 count above 4,096, 6 wrong offset. 7 length is not the last body's end."
-fn table_refusal(file: &[u8], traces: u32) -> u32
-    requires { traces ≤ 16 }
+fn check_table(table: &[[u8; ENTRY]], file_length: usize) -> Result<(), Refusal>
+    requires { length table.now ≤ 16 }
 {
-    let mut end: u32 = 2 + 6 * traces;
-    for k in 0..traces {
-        let count = records(file, k);
-        if count > MOST_RECORDS {
-            return 5;
+    let mut end = COUNT + ENTRY * table.len();
+    for entry in table {
+        let Entry { offset, count } = Entry::read(entry);
+        if count > MOST {
+            return Err(Refusal::LongTrace);
         }
-        if offset(file, k) != end {
-            return 6;
+        if offset != end {
+            return Err(Refusal::WrongOffset);
         }
-        end += 10 * count;
+        end += RECORD * count;
     }
-    if file.len() == end as usize { 0 } else { 7 }
+    if file_length == end {
+        Ok(())
+    } else {
+        Err(Refusal::WrongEnd)
+    }
 }
 
-// Everything that declines a file: all of Open's list but 9.
-fn file_refusal(file: &[u8]) -> u32 {
+// The table of a file, which everything but 9 of Open's list could decline.
+fn table_of(file: &[u8]) -> Result<&[[u8; ENTRY]], Refusal> {
     if file.len() > LONGEST_FILE {
-        return 1;
+        return Err(Refusal::LongFile);
     }
-    if file.len() < 2 {
-        return 2;
-    }
-    let traces = pair(file, 0);
+    let (count, rest) = file.split_first_chunk().ok_or(Refusal::ShortFile)?;
+    let traces = usize::from(u16::from_le_bytes(*count));
     if traces > MOST_TRACES {
-        return 3;
+        return Err(Refusal::ManyTraces);
     }
-    let table_end = entry(traces);
-    if file.len() < table_end {
-        return 4;
-    }
-    let refusal = table_refusal(file, traces);
-    if refusal != 0 {
-        return refusal;
-    }
-    if some_breaks(file, table_end) { 8 } else { 0 }
+    let (table, bodies) = rest
+        .split_at_checked(ENTRY * traces)
+        .ok_or(Refusal::CutTable)?;
+    let (entries, _) = table.as_chunks::<ENTRY>();
+    check_table(entries, file.len())?;
+    check_records(bodies)?;
+    Ok(entries)
 }
 
-pub fn open_refusal(file: &[u8], trace: u32) -> u32 {
-    let refusal = file_refusal(file);
-    if refusal != 0 {
-        return refusal;
-    }
-    if trace < pair(file, 0) { 0 } else { 9 }
+// Where in the file the body of a trace stands. "9 trace number not below T", after all that declines the file.
+pub fn open(file: &[u8], trace: u32) -> Result<Range<usize>, Refusal> {
+    let entry = table_of(file)?
+        .get(trace as usize)
+        .ok_or(Refusal::NoSuchTrace)?;
+    let Entry { offset, count } = Entry::read(entry);
+    Ok(offset..offset + RECORD * count)
 }
 
-pub fn open(file: &[u8], trace: u32) -> Opened {
-    let refusal = open_refusal(file, trace);
-    if refusal != 0 || trace > MOST_TRACES {
-        return Opened {
-            refusal,
-            start: 0,
-            length: 0,
-        };
-    }
-    Opened {
-        refusal: 0,
-        start: offset(file, trace) as usize,
-        length: (10 * records(file, trace)) as usize,
-    }
-}
-
-fn wide(count: u16) -> u32
-    ensures { result < 65536 }
-{
-    count as u32
-}
-
-fn some_count_above(counts: &[u16]) -> bool {
-    for k in 0..counts.len() {
-        if wide(counts[k]) > MOST_RECORDS {
-            return true;
-        }
-    }
-    false
-}
-
-fn total(counts: &[u16]) -> u32
+fn total(counts: &[u16]) -> usize
     requires { length counts.now ≤ 16 }
-    ensures { result ≤ 1048576 }
 {
-    let mut sum: u32 = 0;
-    for k in 0..counts.len() {
-        sum += wide(counts[k]);
-    }
-    sum
+    counts.iter().map(|&count| usize::from(count)).sum()
 }
 
 // "3 more than 16 counts. 5 a count above 4,096. 13 records not ten times the counts' sum long.
 // 1 file above 65,536. 8. 14 output shorter than the file." The output has `room` bytes.
-pub fn write_refusal(counts: &[u16], records: &[u8], room: usize) -> u32 {
-    if counts.len() > 16 {
-        return 3;
+pub fn check_write(counts: &[u16], records: &[u8], room: usize) -> Result<(), Refusal> {
+    if counts.len() > MOST_TRACES {
+        return Err(Refusal::ManyTraces);
     }
-    if some_count_above(counts) {
-        return 5;
+    if counts.iter().any(|&count| usize::from(count) > MOST) {
+        return Err(Refusal::LongTrace);
     }
-    if records.len() != (10 * total(counts)) as usize {
-        return 13;
+    if !records.len().is_multiple_of(RECORD) || records.len() / RECORD != total(counts) {
+        return Err(Refusal::RecordsLength);
     }
-    let length = 2 + 6 * counts.len() + records.len();
+    let length = COUNT + ENTRY * counts.len() + records.len();
     if length > LONGEST_FILE {
-        return 1;
+        return Err(Refusal::LongFile);
     }
-    if some_breaks(records, 0) {
-        return 8;
+    check_records(records)?;
+    if room < length {
+        return Err(Refusal::ShortOutput);
     }
-    if room < length { 14 } else { 0 }
+    Ok(())
 }

@@ -7,24 +7,17 @@ mod job;
 mod next_stage;
 mod older;
 mod places;
+mod refusal;
 mod rules;
 mod runs;
 mod sets;
 mod settlings;
 mod trace;
 
-pub use body::{MOST_HIT_CYCLES, body_refusal, hit_refusal, settled_refusal, timed_refusal};
-pub use job::{Opened, open, open_refusal, write_refusal};
-pub use places::{
-    EX, ID, IF, MEM, POST, PRE, Place, ST, Slot, WB, all_left, fetched, in_stage, place_at, start,
-};
-pub use rules::cycle;
-pub use runs::{Ran, bound, finish, finish_in, run};
-pub use settlings::{
-    Times, all_hits_all_misses, bounds, bounds_in, finish_with_all, margin, put_byte, settle,
-    settle_all, unknowns,
-};
-pub use trace::{
-    DATA_LATENCY, FETCH_LATENCY, FLAGS, HIT, Instruction, LOAD, MISS, MOST, RECORD, STORE, UNKNOWN,
-    instruction_at, size,
-};
+pub use body::{check_body, check_hits, check_settled, check_timed};
+pub use job::{check_write, open};
+pub use places::{Core, Place, Slot, Stage, Standing};
+pub use refusal::{Refusal, number_of};
+pub use runs::Ran;
+pub use settlings::{Times, all_hits_all_misses, bounds, finish_with_all, margin, unknowns};
+pub use trace::{Flag, Instruction, Kind, MOST, RECORD, instruction_at, records};

@@ -1,134 +1,117 @@
-// Where the instructions of a trace stand: instruction i has its stage at index i of one lent array
-// and its remaining count at index i of another. Both have at least as many elements as the trace
-// has instructions.
-ghost use Rattle.std.specs.Prelude.{◌≤◌};
+// Where the instructions of a trace stand.
+ghost use Rattle.std.specs.Prelude.{◌≤◌, ◌<◌, IfSome, length};
 
-use super::trace::{MOST, size};
+use super::refusal::Refusal;
+use super::trace::{Instruction, RECORD};
 
 // The stages in the order in which they run; a store passes ST and any other kind WB.
-pub const PRE: u8 = 0;
+#[derive(Clone, Copy, Debug, Default, PartialEq, Eq, PartialOrd, Ord)]
+pub enum Stage {
+    #[default]
+    Pre,
+    IF,
+    ID,
+    EX,
+    MEM,
+    ST,
+    WB,
+    Post,
+}
 
-pub const IF: u8 = 1;
+// How many they are.
+pub const STAGES: usize = 8;
 
-pub const ID: u8 = 2;
+impl Stage {
+    pub fn index(self) -> usize
+        ensures { result < 8 }
+    {
+        self as usize
+    }
+}
 
-pub const EX: u8 = 3;
-
-pub const MEM: u8 = 4;
-
-pub const ST: u8 = 5;
-
-pub const WB: u8 = 6;
-
-pub const POST: u8 = 7;
-
-#[derive(Clone, Copy, Drop)]
+// A stage and the remaining count there. The default, pre, is where everything starts.
+#[derive(Clone, Copy, Default)]
 pub struct Place {
-    pub stage: u8,
+    pub stage: Stage,
     pub count: u32,
 }
 
-// A stage's occupant; an empty slot has index 0 and count 0.
-#[derive(Clone, Copy, Drop)]
+// An instruction, and where it stands.
+#[derive(Clone, Copy, Default)]
+pub struct Standing {
+    pub instruction: Instruction,
+    pub place: Place,
+}
+
+// A stage's occupant: its number in the trace, and its count.
+#[derive(Clone, Copy)]
 pub struct Slot {
-    pub filled: bool,
     pub index: usize,
     pub count: u32,
 }
 
-fn stage_at(stages: &[u8], i: usize) -> u8 {
-    if i < stages.len() { stages[i] } else { PRE }
+// The instructions of a trace of at most N, from the oldest on.
+#[derive(Clone, Copy)]
+pub struct Core<const N: usize> {
+    all: [Standing; N],
+    size: usize,
+    ghost fits: { size ≤ N },
 }
 
-fn count_at(counts: &[u32], i: usize) -> u32 {
-    if i < counts.len() { counts[i] } else { 0 }
-}
-
-// The place of instruction i.
-pub fn place_at(stages: &[u8], counts: &[u32], i: usize) -> Place {
-    Place {
-        stage: stage_at(stages, i),
-        count: count_at(counts, i),
+impl<const N: usize> Core<N> {
+    // "The starting state has everything in pre." Declined where N are too few, or a record breaks its rules.
+    pub fn of(body: &[u8]) -> Result<Core<N>, Refusal> {
+        let (records, rest) = body.as_chunks::<RECORD>();
+        let size = records.len();
+        if size > N || !rest.is_empty() {
+            return Err(Refusal::BodyLength);
+        }
+        let mut all = [Standing::default(); N];
+        for (s, record) in all.iter_mut().zip(records) {
+            s.instruction = Instruction::read(record)?;
+        }
+        Ok(Core { all, size })
     }
-}
 
-fn put_stage(stages: &mut [u8], i: usize, stage: u8) {
-    if i < stages.len() {
-        stages[i] = stage;
+    pub fn row(&self) -> &[Standing]
+        ensures { length result.now ≤ N }
+    {
+        &self.all[..self.size]
     }
-}
 
-fn put_count(counts: &mut [u32], i: usize, count: u32) {
-    if i < counts.len() {
-        counts[i] = count;
+    pub fn row_mut(&mut self) -> &mut [Standing] {
+        let size = self.size;
+        let all = &mut self.all;
+        &mut all[..size]
     }
-}
 
-pub fn put(stages: &mut [u8], counts: &mut [u32], i: usize, at: Place) {
-    put_stage(stages, i, at.stage);
-    put_count(counts, i, at.count);
-}
-
-// "The starting state has everything in pre."
-pub fn start(body: &[u8], stages: &mut [u8], counts: &mut [u32]) {
-    let n = size(body);
-    for i in 0..n {
-        put_stage(stages, i, PRE);
-        put_count(counts, i, 0);
-    }
-}
-
-// Every instruction has left, "that is, is in post".
-pub fn all_left(body: &[u8], stages: &[u8]) -> bool {
-    let n = size(body);
-    for i in 0..n {
-        if stage_at(stages, i) != POST {
-            return false;
+    // Everything in pre again.
+    pub fn start(&mut self) {
+        for s in self.row_mut() {
+            s.place = Place::default();
         }
     }
-    true
-}
 
-// The oldest instruction that stands in a stage, MOST where none does.
-fn occupant(body: &[u8], stages: &[u8], stage: u8) -> usize {
-    let n = size(body);
-    for i in 0..n {
-        if stage_at(stages, i) == stage {
-            return i;
-        }
+    // Every instruction has left, "that is, is in post".
+    pub fn all_left(&self) -> bool {
+        self.row().iter().all(|s| s.place.stage == Stage::Post)
     }
-    MOST
-}
 
-// The slot of a stage from IF to WB.
-pub fn in_stage(body: &[u8], stages: &[u8], counts: &[u32], stage: u8) -> Slot {
-    let i = occupant(body, stages, stage);
-    if i < MOST {
-        return Slot {
-            filled: true,
-            index: i,
-            count: count_at(counts, i),
-        };
+    // The oldest instruction that stands in a stage from IF to WB.
+    pub fn in_stage(&self, stage: Stage) -> Option<Slot>
+        ensures { IfSome result (λ s. s.index < N) }
+    {
+        let row = self.row();
+        let index = row.iter().position(|s| s.place.stage == stage)?;
+        let count = row.get(index)?.place.count;
+        Some(Slot { index, count })
     }
-    Slot {
-        filled: false,
-        index: 0,
-        count: 0,
-    }
-}
 
-fn one_past_pre(stage: u8) -> usize
-    ensures { result ≤ 1 }
-{
-    if stage == PRE { 0 } else { 1 }
-}
-
-// The fetched count f: how many instructions are past pre.
-pub fn fetched(body: &[u8], stages: &[u8]) -> usize {
-    let n = size(body);
-    let mut f = 0;
-    for i in 0..n {
-        f += one_past_pre(stage_at(stages, i));
+    // The fetched count f: how many instructions are past pre.
+    pub fn fetched(&self) -> usize
+        ensures { result ≤ N }
+    {
+        let past_pre = |s: &&Standing| s.place.stage != Stage::Pre;
+        self.row().iter().filter(past_pre).count()
     }
-    f
 }

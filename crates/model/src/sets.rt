@@ -1,21 +1,22 @@
-// A set of numbers below 32, which registers and stages are, as the bits of a word.
+// A set of numbers below 32, which registers and stages are, as the bits of a word: a set of the library would allocate.
+#[derive(Clone, Copy, Default)]
+pub struct Set(u32);
 
-pub fn has(set: u32, number: u8) -> bool {
-    if number < 32 {
-        (set >> number as u32) % 2 == 1
-    } else {
-        false
-    }
+fn bit(number: u8) -> u32 {
+    1u32.checked_shl(u32::from(number)).unwrap_or(0)
 }
 
-fn with(set: u32, number: u8) -> u32 {
-    if number < 32 {
-        set | (1u32 << number as u32)
-    } else {
-        set
+impl Set {
+    pub fn has(self, number: u8) -> bool {
+        self.0 & bit(number) != 0
     }
-}
 
-pub fn with_if(set: u32, number: u8, yes: bool) -> u32 {
-    if yes { with(set, number) } else { set }
+    pub fn insert(&mut self, number: u8) {
+        self.0 |= bit(number);
+    }
+
+    // Every number of it is one of the other's too.
+    pub fn is_within(self, other: Set) -> bool {
+        self.0 & !other.0 == 0
+    }
 }

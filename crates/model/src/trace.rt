@@ -1,43 +1,75 @@
-// A trace is the bytes of its body: at most 4,096 records, whose fields are read where they stand.
-ghost use Rattle.std.specs.Prelude.{◌≤◌, ◌<◌};
+// A trace is the bytes of its body: at most 4,096 records, each of which is read as an instruction.
+ghost use Rattle.std.specs.Prelude.{◌≤◌, length};
+
+use super::refusal::Refusal;
 
 // Instructions of a trace.
 pub const MOST: usize = 4096;
 
-// Bytes of a record, and where the fields start that a settling or a wait alters.
+// Bytes of a record.
 pub const RECORD: usize = 10;
 
-pub const FLAGS: usize = 1;
+// In the order of their numbers. "Kind 4, a jump" (document 02, F-6).
+#[derive(Clone, Copy, Debug, Default, PartialEq, Eq)]
+pub enum Kind {
+    #[default]
+    Plain,
+    Load,
+    Store,
+    Branch,
+    Jump,
+}
 
-pub const FETCH_LATENCY: usize = 6;
+impl Kind {
+    // A load or a store.
+    pub fn has_data(self) -> bool {
+        self == Kind::Load || self == Kind::Store
+    }
+}
 
-pub const DATA_LATENCY: usize = 8;
+impl TryFrom<u8> for Kind {
+    type Error = Refusal;
 
-pub const PLAIN: u8 = 0;
+    fn try_from(number: u8) -> Result<Self, Refusal> {
+        match number {
+            0 => Ok(Kind::Plain),
+            1 => Ok(Kind::Load),
+            2 => Ok(Kind::Store),
+            3 => Ok(Kind::Branch),
+            4 => Ok(Kind::Jump),
+            _ => Err(Refusal::BrokenRecord),
+        }
+    }
+}
 
-pub const LOAD: u8 = 1;
+// In the order of their numbers.
+#[derive(Clone, Copy, Debug, Default, PartialEq, Eq)]
+pub enum Flag {
+    #[default]
+    Hit,
+    Miss,
+    Unknown,
+}
 
-pub const STORE: u8 = 2;
+impl TryFrom<u8> for Flag {
+    type Error = Refusal;
 
-pub const BRANCH: u8 = 3;
-
-// "Kind 4, a jump" (document 02, F-6).
-pub const JUMP: u8 = 4;
-
-pub const HIT: u8 = 0;
-
-pub const MISS: u8 = 1;
-
-pub const UNKNOWN: u8 = 2;
-
-pub const REFUSED: u8 = 3;
+    fn try_from(number: u8) -> Result<Self, Refusal> {
+        match number {
+            0 => Ok(Flag::Hit),
+            1 => Ok(Flag::Miss),
+            2 => Ok(Flag::Unknown),
+            _ => Err(Refusal::BrokenRecord),
+        }
+    }
+}
 
 // The fields of one instruction.
-#[derive(Clone, Copy, Drop)]
+#[derive(Clone, Copy, Default)]
 pub struct Instruction {
-    pub kind: u8,
-    pub fetch: u8,
-    pub data: u8,
+    pub kind: Kind,
+    pub fetch: Flag,
+    pub data: Flag,
     pub first: u8,
     pub second: u8,
     pub target: u8,
@@ -46,69 +78,71 @@ pub struct Instruction {
     pub data_latency: u32,
 }
 
-// The number of instructions: the whole records of a body, at most MOST.
-pub fn size(body: &[u8]) -> usize
-    ensures { result ≤ 4096 }
-{
-    let records = body.len() / RECORD;
-    if records < MOST { records } else { MOST }
+// Two bytes, little endian.
+fn pair(low: u8, high: u8) -> u32 {
+    u32::from(u16::from_le_bytes([low, high]))
 }
 
-// The byte at an index, 0 past the end.
-pub fn byte(s: &[u8], at: usize) -> u8 {
-    if at < s.len() { s[at] } else { 0 }
-}
+impl Instruction {
+    // The instruction of a record that keeps its rules. "Bits 4 to 7 are zero": a flag has two bits, and no flag has a
+    // number that more than two would give.
+    pub fn read(record: &[u8; RECORD]) -> Result<Instruction, Refusal> {
+        let [
+            kind,
+            flags,
+            first,
+            second,
+            target,
+            execution,
+            f0,
+            f1,
+            d0,
+            d1,
+        ] = *record;
+        let x = Instruction {
+            kind: Kind::try_from(kind)?,
+            fetch: Flag::try_from(flags % 4)?,
+            data: Flag::try_from(flags / 4)?,
+            first,
+            second,
+            target,
+            execution: u32::from(execution),
+            fetch_latency: pair(f0, f1),
+            data_latency: pair(d0, d1),
+        };
+        if x.registers_break() || x.data_breaks() || x.fetch_latency == 0 {
+            return Err(Refusal::BrokenRecord);
+        }
+        Ok(x)
+    }
 
-fn wide(b: u8) -> u32
-    ensures { result < 256 }
-{
-    b as u32
-}
+    // "each 0 to 31"; "Kinds 2 and 3 have target 0." A jump "may have a target" (document 02, F-6), as
+    // plain ones and loads do.
+    fn registers_break(self) -> bool {
+        let past_last = self.first > 31 || self.second > 31 || self.target > 31;
+        let no_target = self.kind == Kind::Store || self.kind == Kind::Branch;
+        past_last || no_target && self.target != 0
+    }
 
-// The two bytes from an index on, little endian.
-pub fn pair(s: &[u8], at: usize) -> u32
-    ensures { result < 65536 }
-{
-    if at < s.len() {
-        wide(byte(s, at)) + 256 * wide(byte(s, at + 1))
-    } else {
-        0
+    // A data latency is "1 to 65,535 for kinds 1 and 2, and 0 for kinds 0 and 3", and "kinds 0 and 3 have data bits
+    // 0". "Kind 4, a jump, has data bits and data latency 0" (document 02, F-6).
+    fn data_breaks(self) -> bool {
+        if self.kind.has_data() {
+            return self.data_latency == 0;
+        }
+        self.data_latency != 0 || self.data != Flag::Hit
     }
 }
 
-pub fn fetch_flag(flags: u8) -> u8
-    ensures { result < 4 }
+// The whole records of a body, as many as a trace may have.
+pub fn records(body: &[u8]) -> &[[u8; RECORD]]
+    ensures { length result.now ≤ 4096 }
 {
-    flags % 4
+    let (all, _) = body.as_chunks::<RECORD>();
+    &all[..all.len().min(MOST)]
 }
 
-pub fn data_flag(flags: u8) -> u8
-    ensures { result < 4 }
-{
-    flags / 4 % 4
-}
-
-// The record that starts at an index of a body.
-fn record(body: &[u8], at: usize) -> Instruction
-    requires { at < 65536 }
-{
-    let flags = byte(body, at + FLAGS);
-    Instruction {
-        kind: byte(body, at),
-        fetch: fetch_flag(flags),
-        data: data_flag(flags),
-        first: byte(body, at + 2),
-        second: byte(body, at + 3),
-        target: byte(body, at + 4),
-        execution: wide(byte(body, at + 5)),
-        fetch_latency: pair(body, at + FETCH_LATENCY),
-        data_latency: pair(body, at + DATA_LATENCY),
-    }
-}
-
-// Instruction i, whether or not its record keeps the rules.
-pub fn instruction_at(body: &[u8], i: usize) -> Instruction
-    requires { i ≤ 4096 }
-{
-    record(body, i * RECORD)
+// Instruction i of a body: none past the end, or where its record breaks its rules.
+pub fn instruction_at(body: &[u8], i: usize) -> Option<Instruction> {
+    Instruction::read(records(body).get(i)?).ok()
 }

@@ -6,6 +6,6 @@ mod rows;
 mod time;
 mod versions;
 
-pub use rows::{Watched, is_under_way, under_way, watch};
-pub use time::{BusTime, accesses, bus_refusal, bus_time, bus_time_in};
+pub use rows::{Watched, is_under_way, watch};
+pub use time::{BusTime, accesses, bus_time, check_bus};
 pub use versions::version;

@@ -1,73 +1,58 @@
 // How many accesses are under way after a number of cycles, by where the instructions stand then.
-use super::time::one_if;
-use model::{Instruction, Place};
-use std::num::wrapping_add_u32;
+use model::{Core, Flag, Instruction, Kind, Place, Stage};
 
 // Whether x, which stands at `at`, has an access under way (document 02, F-1).
 pub fn is_under_way(x: Instruction, at: Place) -> bool {
-    let missed_data = x.data == model::MISS;
-    let stage = at.stage;
-    match stage {
+    let Place { stage, count } = at;
+    match (stage, x.kind) {
         // "a missed fetch in IF .. with count above 0"
-        model::IF => (x.fetch == model::MISS) & (at.count > 0),
-        model::MEM => {
-            // "or a missed load in MEM .. with count above 0"
-            let load = (x.kind == model::LOAD) & missed_data & (at.count > 0);
-            // "or a missed store in MEM"
-            let store = (x.kind == model::STORE) & missed_data;
-            load | store
-        }
+        (Stage::IF, _) => x.fetch == Flag::Miss && count > 0,
+        // "or a missed load in MEM .. with count above 0"
+        (Stage::MEM, Kind::Load) => x.data == Flag::Miss && count > 0,
+        // "or a missed store in MEM"
+        (Stage::MEM, Kind::Store) => x.data == Flag::Miss,
         // "or store in ST with count above 0"
-        model::ST => (x.kind == model::STORE) & missed_data & (at.count > 0),
+        (Stage::ST, Kind::Store) => x.data == Flag::Miss && count > 0,
         _ => false,
     }
 }
 
 // The accesses under way in a row of a trace without unknown flags.
-pub fn under_way<'a>(body: &'a [u8], stages: &'a [u8], counts: &'a [u32]) -> u32 {
-    let n = model::size(body);
-    let mut found: u32 = 0;
-    for i in 0..n {
-        let at = model::place_at(stages, counts, i);
-        found += one_if(is_under_way(model::instruction_at(body, i), at));
-    }
-    found
+fn under_way<const N: usize>(core: &Core<N>) -> usize {
+    let row = core.row().iter();
+    row.filter(|s| is_under_way(s.instruction, s.place)).count()
 }
 
 // The rows of a trace before all have left: how many there are, how many have an access under way, and the
 // most that are under way in one.
-#[derive(Clone, Copy, Drop)]
+#[derive(Clone, Copy, Default)]
 pub struct Watched {
     pub rows: u32,
     pub busy: u32,
-    pub most: u32,
+    pub most: usize,
 }
 
-// The same with a row more. There are no more rows than document 01's bound, so that nothing wraps.
-fn with_row(w: Watched, found: u32) -> Watched {
-    Watched {
-        rows: wrapping_add_u32(w.rows, 1),
-        busy: wrapping_add_u32(w.busy, one_if(found > 0)),
-        most: if found > w.most { found } else { w.most },
+impl Watched {
+    // A row more, with so many accesses under way. There are no more rows than document 01's bound, so that no sum is
+    // ever cut off.
+    fn add(&mut self, found: usize) {
+        self.rows = self.rows.saturating_add(1);
+        self.busy = self.busy.saturating_add(u32::from(found > 0));
+        self.most = self.most.max(found);
     }
 }
 
-// The rows from the start on until all have left, and no longer than the bound on finishing times; the lent arrays
-// have the places then. There are as many as the finishing time says.
-pub fn watch(body: &[u8], stages: &mut [u8], counts: &mut [u32], hit_cycles: u32) -> Watched {
-    let bound = model::bound(body, hit_cycles);
-    model::start(body, stages, counts);
-    let mut w = Watched {
-        rows: 0,
-        busy: 0,
-        most: 0,
-    };
-    for _ in 0..bound {
-        if model::all_left(body, stages) {
-            return w;
+// The rows from the start on until all have left, and no longer than the bound on finishing times; the core has the
+// places then. There are as many as the finishing time says.
+pub fn watch<const N: usize>(core: &mut Core<N>, hit_cycles: u32) -> Watched {
+    core.start();
+    let mut watched = Watched::default();
+    for _ in 0..core.bound(hit_cycles) {
+        if core.all_left() {
+            return watched;
         }
-        w = with_row(w, under_way(body, stages, counts));
-        model::cycle(body, stages, counts, hit_cycles);
+        watched.add(under_way(core));
+        core.cycle(hit_cycles);
     }
-    w
+    watched
 }

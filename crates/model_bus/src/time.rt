@@ -1,124 +1,77 @@
 // The call: "counts N, the fetches and the load and store accesses marked miss or unknown, and gives worst
 // time plus N times d" (document 02, F-1).
-ghost use Rattle.std.specs.Prelude.{◌≤◌};
-
-use model::Instruction;
-use std::num::wrapping_add_u32;
+use model::{Flag, Instruction, RECORD, Refusal};
 
 // The longest that a latency with its wait may be.
 const LONGEST: u32 = 65535;
 
-// A refusal has zeros for the other two.
-#[derive(Clone, Copy, Drop)]
+// N, and the time: none where some settling has not left by document 01's bound.
+#[derive(Clone, Copy)]
 pub struct BusTime {
-    pub refusal: u32,
     pub accesses: u32,
-    pub time: u32,
+    pub time: Option<u32>,
 }
 
 // "Marked miss or unknown".
-fn marked(flag: u8) -> bool {
-    (flag == model::MISS) | (flag == model::UNKNOWN)
+fn marked(flag: Flag) -> bool {
+    flag == Flag::Miss || flag == Flag::Unknown
 }
 
 // A load or a store whose data access is marked so.
 fn marked_data(x: Instruction) -> bool {
-    ((x.kind == model::LOAD) | (x.kind == model::STORE)) & marked(x.data)
-}
-
-pub fn one_if(yes: bool) -> u32
-    ensures { result ≤ 1 }
-{
-    if yes { 1 } else { 0 }
+    x.kind.has_data() && marked(x.data)
 }
 
 // How many of an instruction's two accesses are counted.
-fn counted(x: Instruction) -> u32
-    ensures { result ≤ 2 }
-{
-    one_if(marked(x.fetch)) + one_if(marked_data(x))
+fn counted(record: &[u8; RECORD]) -> u32 {
+    Instruction::read(record).map_or(0, |x| {
+        u32::from(marked(x.fetch)) + u32::from(marked_data(x))
+    })
 }
 
 // N.
 pub fn accesses(body: &[u8]) -> u32 {
-    let n = model::size(body);
-    let mut found: u32 = 0;
-    for i in 0..n {
-        found += counted(model::instruction_at(body, i));
-    }
-    found
+    let all = model::records(body).iter();
+    all.fold(
+        0,
+        |found: u32, record| found.saturating_add(counted(record)),
+    )
 }
 
 fn exceeds(latency: u32, wait: u32) -> bool {
-    wrapping_add_u32(latency, wait) > LONGEST
+    latency.saturating_add(wait) > LONGEST
 }
 
 // "A counted latency plus d exceeds 65,535": the latency of an access that hits is not asked.
 fn too_long(x: Instruction, wait: u32) -> bool {
-    (marked(x.fetch) & exceeds(x.fetch_latency, wait))
-        | (marked_data(x) & exceeds(x.data_latency, wait))
-}
-
-fn some_too_long(body: &[u8], wait: u32) -> bool {
-    let n = model::size(body);
-    for i in 0..n {
-        if too_long(model::instruction_at(body, i), wait) {
-            return true;
-        }
-    }
-    false
+    let fetch = marked(x.fetch) && exceeds(x.fetch_latency, wait);
+    let access = marked_data(x) && exceeds(x.data_latency, wait);
+    fetch || access
 }
 
 // "Refuses 10, 8, then 15", with "17, after 8" (document 02, F-4).
-pub fn bus_refusal(body: &[u8], wait: u32, hit_cycles: u32) -> u32 {
-    let refusal = model::timed_refusal(body, hit_cycles);
-    if refusal != 0 {
-        return refusal;
+pub fn check_bus(body: &[u8], wait: u32, hit_cycles: u32) -> Result<(), Refusal> {
+    model::check_timed(body, hit_cycles)?;
+    let long = |record| Instruction::read(record).is_ok_and(|x| too_long(x, wait));
+    if model::records(body).iter().any(long) {
+        return Err(Refusal::LongWait);
     }
-    if some_too_long(body, wait) { 15 } else { 0 }
+    Ok(())
 }
 
-// "Worst time plus N times d". It is at most document 01's bound for the latencies with their waits, so that
-// nothing wraps.
-fn with_waits(worst: u32, n: u32, wait: u32) -> u32 {
-    let mut time = worst;
-    for _ in 0..n {
-        time = wrapping_add_u32(time, wait);
-    }
-    time
-}
-
-// The answer, over all settlings, each of which is run. The lent arrays have room for a settled body and for
-// its places.
-pub fn bus_time_in(
+// "Worst time plus N times d", over all settlings, each of which is run, of a body of at most N instructions. It is at
+// most document 01's bound for the latencies with their waits, so that nothing is cut off.
+pub fn bus_time<const N: usize>(
     body: &[u8],
     wait: u32,
-    out: &mut [u8],
-    stages: &mut [u8],
-    counts: &mut [u32],
     hit_cycles: u32,
-) -> BusTime {
-    let refusal = bus_refusal(body, wait, hit_cycles);
-    if refusal != 0 {
-        return BusTime {
-            refusal,
-            accesses: 0,
-            time: 0,
-        };
-    }
-    let times = model::bounds_in(body, out, stages, counts, hit_cycles);
-    let n = accesses(body);
-    BusTime {
-        refusal: 0,
-        accesses: n,
-        time: with_waits(times.worst, n, wait),
-    }
-}
-
-// The same with arrays of its own.
-pub fn bus_time(body: &[u8], wait: u32, hit_cycles: u32) -> BusTime {
-    let mut out = [0u8; 40960];
-    let mut stages = [0u8; 4096];
-    let mut counts = [0u32; 4096];
-    bus_time_in(body, wait, &mut out, &mut stages, &mut counts, hit_cycles)
+) -> Result<BusTime, Refusal> {
+    check_bus(body, wait, hit_cycles)?;
+    let accesses = accesses(body);
+    let waits = accesses.saturating_mul(wait);
+    let times = model::bounds::<N>(body, hit_cycles);
+    Ok(BusTime {
+        accesses,
+        time: times.map(|t| t.worst.saturating_add(waits)),
+    })
 }

@@ -2,87 +2,83 @@
 // to d on each missed access" (document 02, F-1). Each is a version of the trace, a body of its own.
 ghost use Rattle.std.specs.Prelude.{◌<◌, ◌≤◌};
 
-use model::{DATA_LATENCY, FETCH_LATENCY, FLAGS, Instruction, RECORD, put_byte};
-use std::num::wrapping_add_u32;
+use model::{Flag, Instruction, RECORD};
 
-// An access of a version, and the rest of the choice that made it.
-#[derive(Clone, Copy, Drop)]
+// An access of a version.
+#[derive(Clone, Copy)]
 struct Access {
-    flag: u8,
+    flag: Flag,
     latency: u32,
-    left: u32,
 }
 
 // In how many ways an access goes: a miss with each wait from 0 to `wait`, an unknown one also as a hit, and a
 // hit in one way.
-fn ways(flag: u8, wait: u32) -> u32
+fn ways(flag: Flag, wait: u32) -> u32
     requires { wait < 65536 }
     ensures { 0 < result }
 {
-    if flag == model::MISS {
-        return wait + 1;
+    match flag {
+        Flag::Hit => 1,
+        Flag::Miss => wait + 1,
+        Flag::Unknown => wait + 2,
     }
-    if flag == model::UNKNOWN {
-        return wait + 2;
-    }
-    1
 }
 
-// The way that the choice has for an access: its last digit to the base of how many ways there are.
-fn chosen(flag: u8, latency: u32, choice: u32, wait: u32) -> Access
+// The way that the choice has for an access: its last digit to the base of how many ways there are, which goes.
+fn chosen(flag: Flag, latency: u32, wait: u32, choice: &mut u32) -> Access
     requires { wait < 65536 }
 {
     let all = ways(flag, wait);
-    let way = choice % all;
-    let left = choice / all;
-    if way > wait {
+    let way = *choice % all;
+    *choice /= all;
+    if flag == Flag::Hit || way > wait {
         return Access {
-            flag: model::HIT,
+            flag: Flag::Hit,
             latency,
-            left,
         };
     }
     Access {
-        flag: if flag == model::UNKNOWN {
-            model::MISS
-        } else {
-            flag
-        },
-        latency: wrapping_add_u32(latency, way),
-        left,
+        flag: Flag::Miss,
+        latency: latency.saturating_add(way),
     }
 }
 
 // Two bytes, little endian.
-fn put_pair(out: &mut [u8], at: usize, n: u32)
-    requires { at < 65536 }
-{
-    put_byte(out, at, (n % 256) as u8);
-    put_byte(out, at + 1, (n / 256 % 256) as u8);
+fn pair(latency: u32) -> [u8; 2] {
+    ((latency % 65536) as u16).to_le_bytes()
 }
 
-// Alters the record at an index, which is x, by the choice; gives the rest of the choice.
-fn put_version(x: Instruction, choice: u32, wait: u32, out: &mut [u8], at: usize) -> u32
-    requires { (at ≤ 40960) × (wait < 65536) }
+// Alters a record by the last digits of the choice, which go.
+fn put_version(record: &mut [u8; RECORD], wait: u32, choice: &mut u32)
+    requires { wait < 65536 }
 {
-    let fetch = chosen(x.fetch, x.fetch_latency, choice, wait);
-    let access = chosen(x.data, x.data_latency, fetch.left, wait);
-    put_byte(out, at + FLAGS, fetch.flag % 4 + 4 * (access.flag % 4));
-    put_pair(out, at + FETCH_LATENCY, fetch.latency);
-    put_pair(out, at + DATA_LATENCY, access.latency);
-    access.left
+    let Ok(x) = Instruction::read(record) else {
+        return;
+    };
+    let fetch = chosen(x.fetch, x.fetch_latency, wait, choice);
+    let access = chosen(x.data, x.data_latency, wait, choice);
+    let [kind, _, first, second, target, execution, ..] = *record;
+    let flags = fetch.flag as u8 + 4 * access.flag as u8;
+    let [f0, f1] = pair(fetch.latency);
+    let [d0, d1] = pair(access.latency);
+    *record = [
+        kind, flags, first, second, target, execution, f0, f1, d0, d1,
+    ];
 }
 
-// One version of an accepted body, at the start of `out`; the versions have the choices from 0 on. Gives the
-// rest of the choice, which is not 0 where there is no such version, since there are not so many.
+// One version of an accepted body, at the start of `out`, which has room for it; the versions have the choices from 0
+// on. Gives the rest of the choice, which is not 0 where there is no such version, since there are not so many.
 pub fn version(body: &[u8], choice: u32, wait: u32, out: &mut [u8]) -> u32
     requires { wait < 65536 }
 {
-    model::settle_all(body, model::MISS, out);
-    let n = model::size(body);
+    let Some((room, _)) = out.split_at_mut_checked(body.len()) else {
+        return choice;
+    };
+    room.copy_from_slice(body);
+    let (records, _) = room.as_chunks_mut::<RECORD>();
     let mut left = choice;
-    for i in 0..n {
-        left = put_version(model::instruction_at(body, i), left, wait, out, i * RECORD);
+    for record in records {
+        put_version(record, wait, &mut left);
     }
     left
 }

@@ -2,11 +2,11 @@
 // charts are made with it, and the program `example_charts` holds the engine to them.
 #![tactic(auto)]
 
-use reading::read_full;
+use reading::{INPUT_BYTES, read_part};
 use std::io;
 
 fn main(rt: HostRuntime) -> io::Result<()> {
-    let mut file = [0u8; 65537];
-    let n = read_full(&mut rt.reader(), &mut file);
-    model_chart_text::print_chart(&rt, &file[..n])
+    let mut input = [0u8; INPUT_BYTES];
+    let file = read_part(&mut rt.reader(), &mut input);
+    model_chart_text::print_chart(&rt, file)
 }

@@ -5,4 +5,4 @@
 mod refusals;
 mod times;
 
-pub use times::{WholeJob, worst_times, worst_times_in};
+pub use times::worst_times;

@@ -1,3 +1,3 @@
 pub mod Seven
 pub mod Nearer
-pub mod Octal
+pub mod Paths

@@ -4,4 +4,4 @@
 
 pub mod moving;
 
-pub use moving::{Bits, arriving, digits, leaving, mask, none};
+pub use moving::{Traffic, none};

@@ -1,4 +1,4 @@
-// For programs that run Open and hold no struct with a part in it; no call of the engine's.
+// Open without its refusal; no call of the engine's.
 ghost use Rattle.std.specs.Prelude.{◌≡◌};
 ghost use Rattle.record.specs.Part.{StartsAt};
 ghost use Rattle.job.specs.Layout.{start_at};
@@ -6,9 +6,9 @@ ghost use Rattle.job.specs.Open.{open_refusal, open_body};
 
 use crate::open;
 
-// The part that Open hands back, without its refusal number.
+// The part that Open hands back, or an empty one where it refuses, whose place is left free.
 pub fn open_body<'a>(file: &'a [u8], trace: u32) -> &'a [u8]
     ensures { (result.now ≡ open_body file.now trace) × (open_refusal file.now trace ≡ 0 → StartsAt file.entry (start_at file.now trace) result) }
 {
-    open(file, trace).body
+    open(file, trace).unwrap_or(&[])
 }

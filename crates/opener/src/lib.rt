@@ -1,35 +1,26 @@
-// Open: a trace's body as a part of its file, in a struct that holds the part.
+// Open: a trace's body as a part of its file.
 #![tactic(auto)]
 
-ghost use Rattle.std.specs.Prelude.{◌≡◌};
+ghost use Rattle.std.specs.Prelude.{◌≡◌, IfOk};
 ghost use Rattle.record.specs.Part.{StartsAt};
+ghost use Rattle.record.specs.Number.{refusal_in};
 ghost use Rattle.job.specs.Layout.{start_at};
 ghost use Rattle.job.specs.Open.{open_refusal, open_body};
+ghost use Rattle.opener.specs.Opened.{opened};
 
 use job::locate;
-use parts::cut;
+use parts::part;
+use record::Refusal;
 
 pub mod inner;
 
-// A refusal's number and an empty part, or 0 and the body.
-#[repr(C)]
-#[derive(Clone, Copy, Drop)]
-pub struct Opened<'a> {
-    pub refusal: u32,
-    pub body: &'a [u8],
-}
-
 // The trace's body, handed back as a part of the file, without copying: its bytes, which tell its
-// length, and its place in the file. On a refusal the part is empty, and its place is left free.
-pub fn open<'a>(file: &'a [u8], trace: u32) -> Opened<'a>
-    ensures { (result.refusal ≡ open_refusal file.now trace)
-        × (result.body.now ≡ open_body file.now trace)
-        × (open_refusal file.now trace ≡ 0 → StartsAt file.entry (start_at file.now trace) result.body) }
+// length, and its place in the file.
+pub fn open<'a>(file: &'a [u8], trace: u32) -> Result<&'a [u8], Refusal>
+    ensures refusal { refusal_in result ≡ open_refusal file.now trace }
+    ensures bytes { opened result ≡ open_body file.now trace }
+    ensures place { IfOk result (λ body. StartsAt file.entry (start_at file.now trace) body) }
 {
-    let found = locate(file, trace);
-    let body = cut(file, found.start, found.end);
-    Opened {
-        refusal: found.refusal,
-        body,
-    }
+    let bounds = locate(file, trace)?;
+    Ok(part(file, bounds))
 }

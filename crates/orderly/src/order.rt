@@ -1,13 +1,11 @@
 // The test of orderly states.
 ghost use Rattle.std.specs.Prelude.{◌≡◌, length};
-ghost use Rattle.machine.specs.Instruction.{Trace};
-ghost use Rattle.machine.specs.Hits.{with_hits};
 ghost use Rattle.machine.specs.State.{orderly};
-ghost use Rattle.standing.specs.Inner.{Reads};
+ghost use Rattle.record.specs.Body.{trace_of, trace_with};
 ghost use Rattle.orderly.specs.Inner.{count_of, stores_apart, all_counted};
 
 use decode::{count_in_if, count_in_mem, count_in_st, is_store};
-use machine::{Slot, State};
+use machine::Slot;
 use standing::Standing;
 use turns::{in_flight, in_order};
 
@@ -22,27 +20,31 @@ fn counted(held: Slot, entry: u32) -> bool
 }
 
 // WB holds no store; ST holds a store older than those in flight.
-fn stores_apart(s: State, w: Standing) -> bool
-    ensures { (trace : Trace) → Reads trace s w → result ≡ stores_apart trace s }
+fn stores_apart(w: &Standing) -> bool
+    ensures { result ≡ stores_apart (trace_of w.now.body.now) w.now.state }
 {
+    let s = w.state;
     let below = s.ST.index as u64 + in_flight(s) < s.fetched as u64;
-    (!s.WB.filled | !is_store(w.WB)) & (!s.ST.filled | below) & (!s.ST.filled | is_store(w.ST))
+    (!s.WB.filled | !is_store(w.fields.WB))
+        & (!s.ST.filled | below)
+        & (!s.ST.filled | is_store(w.fields.ST))
 }
 
-fn all_counted(s: State, w: Standing, hit_cycles: u32) -> bool
-    ensures { (trace : Trace) → Reads trace s w → result ≡ all_counted (with_hits hit_cycles trace) s }
+fn all_counted(w: &Standing, hit_cycles: u32) -> bool
+    ensures { result ≡ all_counted (trace_with w.now.body.now hit_cycles) w.now.state }
 {
-    counted(s.IF, count_in_if(w.IF))
+    let s = w.state;
+    counted(s.IF, count_in_if(w.fields.IF))
         & counted(s.ID, 0)
-        & counted(s.EX, w.EX.execution)
-        & counted(s.MEM, count_in_mem(w.MEM, hit_cycles))
-        & counted(s.ST, count_in_st(w.ST, hit_cycles))
+        & counted(s.EX, w.fields.EX.execution)
+        & counted(s.MEM, count_in_mem(w.fields.MEM, hit_cycles))
+        & counted(s.ST, count_in_st(w.fields.ST, hit_cycles))
         & counted(s.WB, 0)
 }
 
-// For the trace whose instructions are read, where a data hit takes so many cycles.
-pub fn orderly(n: u32, s: State, w: Standing, hit_cycles: u32) -> bool
-    ensures { (trace : Trace) → Reads trace s w → length trace ≡ n → result ≡ orderly (with_hits hit_cycles trace) s }
+// For a trace of n instructions, where a data hit takes so many cycles.
+pub fn orderly(n: u32, w: &Standing, hit_cycles: u32) -> bool
+    ensures { length (trace_of w.now.body.now) ≡ n → result ≡ orderly (trace_with w.now.body.now hit_cycles) w.now.state }
 {
-    in_order(n, s) & stores_apart(s, w) & all_counted(s, w, hit_cycles)
+    in_order(n, w.state) & stores_apart(w) & all_counted(w, hit_cycles)
 }

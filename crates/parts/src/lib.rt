@@ -6,25 +6,26 @@ ghost use Rattle.record.specs.Part.{StartsAt};
 ghost use Rattle.job.specs.Layout.{traces, start_at};
 ghost use Rattle.job.specs.Open.{file_refusal, open_body, part_of};
 
+use job::Bounds;
 use job::table::bounds_of;
 
-// The bytes from start to end, in their place.
-fn part(file: &[u8], start: usize, end: usize) -> &[u8]
-    requires { (start ≤ end) × (end ≤ length file.now) }
-    ensures { (result.now ≡ take (end - start) (drop start file.now)) × StartsAt file.entry start result }
+// The bytes between the bounds, in their place.
+pub fn part(file: &[u8], bounds: Bounds) -> &[u8]
+    requires { (bounds.start ≤ bounds.end) × (bounds.end ≤ length file.now) }
+    ensures { (result.now ≡ take (bounds.end - bounds.start) (drop bounds.start file.now)) × StartsAt file.entry bounds.start result }
 {
-    &file[start..end]
+    &file[bounds.start..bounds.end]
 }
 
 // The bytes from start to end, in their place; or none where they are not all there, and then it is
-// left free where the empty part stands.
+// left free where the empty part stands. The library's `get` does not say where its part lies.
 pub fn cut(file: &[u8], start: usize, end: usize) -> &[u8]
     ensures { (result.now ≡ part_of file.now start end) × (start ≤ end → end ≤ length file.now → StartsAt file.entry start result) }
 {
     if end > file.len() || start > end {
         return &file[..0];
     }
-    part(file, start, end)
+    part(file, Bounds { start, end })
 }
 
 // The part that Open hands back, for callers that have checked the file; no call of the engine's.
@@ -32,6 +33,5 @@ pub fn body_of(file: &[u8], trace: u32) -> &[u8]
     requires { (file_refusal file.now ≡ 0) × (trace < traces file.now) }
     ensures { (result.now ≡ open_body file.now trace) × StartsAt file.entry (start_at file.now trace) result }
 {
-    let bounds = bounds_of(file, trace);
-    part(file, bounds.start, bounds.end)
+    part(file, bounds_of(file, trace))
 }

@@ -1,2 +1,2 @@
-pub mod Answer
+pub mod Paths
 pub mod Cases

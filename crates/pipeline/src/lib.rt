@@ -1,7 +1,8 @@
 // The public call Step.
 #![tactic(auto)]
 
-pub mod refusal;
+pub mod answer;
 pub mod stepping;
 
-pub use stepping::{Stepped, step};
+pub use answer::Stepped;
+pub use stepping::step;

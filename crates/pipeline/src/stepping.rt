@@ -1,43 +1,23 @@
 // Step: the state one cycle on.
 ghost use Rattle.std.specs.Prelude.{◌≡◌};
-ghost use Rattle.pipeline.specs.Step.{step_answer};
+ghost use Rattle.pipeline.specs.Step.{stepped, step_answer};
 
-use crate::refusal::NOT_ORDERLY;
-use acceptance::settled_refusal;
+use acceptance::check_settled;
 use cycle::cycle;
 use machine::State;
 use orderly::orderly;
-use record::count;
+use record::{Refusal, count};
 use standing::read_stages;
 
-#[repr(C)]
-#[derive(Clone, Copy, Drop)]
-pub struct Stepped {
-    pub refusal: u32,
-    pub state: State,
-}
-
-// The refusals in their order, else the cycle; a refusal gives the given state back.
-pub fn step(body: &[u8], s: State, hit_cycles: u32) -> Stepped
-    ensures { result ≡ step_answer body.now s hit_cycles }
+// The refusals in their order, else the state after the cycle.
+pub fn step(body: &[u8], s: State, hit_cycles: u32) -> Result<State, Refusal>
+    ensures { stepped s result ≡ step_answer body.now s hit_cycles }
 {
-    let fault = settled_refusal(body, hit_cycles);
-    if fault != 0 {
-        return Stepped {
-            refusal: fault,
-            state: s,
-        };
-    }
+    check_settled(body, hit_cycles)?;
     let n = count(body);
     let w = read_stages(body, s);
-    if orderly(n, s, w, hit_cycles) {
-        return Stepped {
-            refusal: 0,
-            state: cycle(n, s, w, hit_cycles),
-        };
+    if orderly(n, &w, hit_cycles) {
+        return Ok(cycle(n, &w, hit_cycles));
     }
-    Stepped {
-        refusal: NOT_ORDERLY,
-        state: s,
-    }
+    Err(Refusal::NotOrderly)
 }

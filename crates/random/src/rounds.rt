@@ -1,190 +1,130 @@
 // One trace after the other, each compared with the model in every way.
-ghost use Rattle.std.specs.Prelude.{◌<◌};
+use crate::case::{Case, Settled};
+use crate::files::{Written, broken, damage, file_agrees};
+use crate::pairs::slower;
+use crate::tally::Tally;
+use arrayvec::CapacityError;
+use job::locate;
+use model::check_settled;
+use random_traces::{Dice, Draft};
 
-use crate::files::{File, broken, damaged, file_agrees, refusal_at, written};
-use crate::pairs::{added, ordered, slower};
-use crate::refusals::refusals_agree;
-use crate::rows::rows;
-use crate::tally::{Tally, compared, held, more, seen};
-use crate::times::{
-    bounds_agree, finish_agrees, likeness_agrees, margin_agrees, model_bounds, model_finish,
-};
-use random_traces::{Dice, Draft, first, length_of, part, rolled};
-use record::layout::RECORD_SIZE;
+// A trace with more unknown flags has too many settlings.
+const FEW: u32 = 6;
 
-// Every row and the finishing time of a trace without unknown flags.
-fn rows_turn(body: &[u8], hit_cycles: u32, tally: Tally) -> Tally {
-    let time = model_finish(body, hit_cycles);
-    let seen = rows(body, time, hit_cycles);
-    let mut t = held(
-        held(tally, finish_agrees(body, time, hit_cycles)),
-        seen.agree,
-    );
-    t.finishes = more(t.finishes, 1);
-    t.rows = more(t.rows, seen.compared as u64);
-    t.steps = more(t.steps, seen.compared as u64);
-    t
-}
+impl Tally {
+    fn compared(&mut self, hit_cycles: u32) {
+        self.with_hits.add_one_if(hit_cycles > 0);
+    }
 
-// A deadline near the worst time.
-fn near(worst: u32, slack: u32) -> u32
-    requires { slack < 65536 }
-{
-    if worst > 2 {
-        if worst < 1000000000 {
-            return worst - 2 + slack;
+    // Every row and the finishing time of a trace without unknown flags.
+    fn rows_turn(&mut self, run: &Settled) {
+        self.note(run.finishes());
+        self.rows(run);
+        self.finishes.add_one();
+    }
+
+    // A margin for a deadline near the worst time, with its sign.
+    fn margin_turn(&mut self, case: &Case, worst: u32, d: Dice) {
+        let deadline = worst.saturating_sub(2).saturating_add(d.part(7, 5));
+        self.note(case.keeps(deadline, worst));
+        self.margins.add_one();
+    }
+
+    // The order and, where only latencies differ, the sum bound, with one h for both; likeness of the two.
+    fn pair_turn(&mut self, first: &Settled, second: &Settled, flags: bool) {
+        self.note(first.time <= second.time && first.is_ahead_of(second));
+        self.pairs.add_one();
+        if !flags {
+            let bound = first.added_in(second).saturating_add(u64::from(first.time));
+            self.note(u64::from(second.time) <= bound);
+            self.sums.add_one();
         }
+        self.note(first.is_alike(second));
+        self.likes.add_one();
     }
-    slack
-}
 
-// A margin for a deadline near the worst time, with its sign.
-fn margin_turn(body: &[u8], worst: u32, d: Dice, hit_cycles: u32, tally: Tally) -> Tally {
-    let deadline = near(worst, part(d, 7, 5));
-    let mut t = held(tally, margin_agrees(body, worst, deadline, hit_cycles));
-    t.margins = more(t.margins, 1);
-    t
-}
-
-// The order and, where only latencies differ, the sum bound, with one h for both; likeness of the two.
-fn pair_turn(body: &[u8], second: &[u8], flags: bool, hit_cycles: u32, tally: Tally) -> Tally {
-    let early = model_finish(body, hit_cycles);
-    let late = model_finish(second, hit_cycles);
-    let order = early <= late && ordered(body, second, late, hit_cycles);
-    let sum = flags || late as u64 <= more(early as u64, added(body, second));
-    let mut t = held(
-        held(held(tally, order), sum),
-        likeness_agrees(body, second, early == late, hit_cycles),
-    );
-    t.pairs = more(t.pairs, 1);
-    t.sums = more(t.sums, if flags { 0 } else { 1 });
-    t.likes = more(t.likes, 1);
-    t
-}
-
-pub fn settled_turn(draft: Draft, hit_cycles: u32, tally: Tally) -> Tally {
-    let n = length_of(draft);
-    let bytes = draft.bytes;
-    let whole: &[u8] = &bytes;
-    let body = first(whole, n);
-    let flags = part(draft.dice, 4, 2) == 0;
-    let later = slower(draft, flags);
-    let other = later.bytes;
-    let all: &[u8] = &other;
-    let second = first(all, n);
-    let t = rows_turn(second, hit_cycles, rows_turn(body, hit_cycles, tally));
-    let worst = model_finish(second, hit_cycles);
-    let both = pair_turn(body, second, flags, hit_cycles, compared(t, hit_cycles));
-    margin_turn(second, worst, draft.dice, hit_cycles, both)
-}
-
-// One trace with a latency of 65,535 somewhere, whose rows are many.
-pub fn long_turn(draft: Draft, hit_cycles: u32, tally: Tally) -> Tally {
-    let n = length_of(draft);
-    let bytes = draft.bytes;
-    let whole: &[u8] = &bytes;
-    rows_turn(first(whole, n), hit_cycles, compared(tally, hit_cycles))
-}
-
-fn settlings_of(unknown: u32) -> u64 {
-    if unknown > 6 { 0 } else { 1u64 << unknown }
-}
-
-// Best and worst against all settlings, where there are at most 64.
-pub fn unknown_turn(draft: Draft, hit_cycles: u32, tally: Tally) -> Tally {
-    let n = length_of(draft);
-    let bytes = draft.bytes;
-    let whole: &[u8] = &bytes;
-    let body = first(whole, n);
-    let unknown = model::unknowns(body);
-    if unknown > 6 {
-        return tally;
+    pub fn settled_turn(&mut self, draft: &Draft, hit_cycles: u32) {
+        let flags = draft.dice.part(4, 2) == 0;
+        let later = slower(draft, flags);
+        let first = Case::of(draft, hit_cycles).settled();
+        let second = Case::of(&later, hit_cycles).settled();
+        let (Some(first), Some(second)) = (first, second) else {
+            return self.note(false);
+        };
+        self.compared(hit_cycles);
+        self.rows_turn(&first);
+        self.rows_turn(&second);
+        self.pair_turn(&first, &second, flags);
+        self.margin_turn(&second.case, second.time, draft.dice);
     }
-    let times = model_bounds(body, hit_cycles);
-    let agree = bounds_agree(body, times.best, times.worst, hit_cycles);
-    let mut t = held(compared(tally, hit_cycles), agree);
-    t.bounds = more(t.bounds, 1);
-    t.settlings = more(t.settlings, settlings_of(unknown));
-    margin_turn(body, times.worst, draft.dice, hit_cycles, t)
-}
 
-// Whether 17 declines the trace.
-pub fn declined(draft: Draft, hit_cycles: u32) -> bool {
-    let n = length_of(draft);
-    let bytes = draft.bytes;
-    let whole: &[u8] = &bytes;
-    model::hit_refusal(first(whole, n), hit_cycles) != 0
-}
-
-// What each call answers to a trace that 17 declines, and Alike beside a slower one that it may accept.
-pub fn declined_turn(draft: Draft, hit_cycles: u32, tally: Tally) -> Tally {
-    let n = length_of(draft);
-    let bytes = draft.bytes;
-    let whole: &[u8] = &bytes;
-    let later = slower(draft, true);
-    let other = later.bytes;
-    let all: &[u8] = &other;
-    let agree = refusals_agree(first(whole, n), first(all, n), hit_cycles);
-    let mut t = held(tally, agree);
-    t.declined = more(t.declined, 1);
-    t
-}
-
-// A job file as Write made it.
-fn opened_turn(file: &[u8], tally: Tally) -> Tally {
-    let mut t = held(seen(tally, refusal_at(file, 3)), file_agrees(file));
-    t.files = more(t.files, 1);
-    t
-}
-
-fn damaged_turn(file: &[u8], tally: Tally) -> Tally {
-    let mut t = held(seen(tally, refusal_at(file, 0)), file_agrees(file));
-    t.damaged = more(t.damaged, 1);
-    t
-}
-
-// The file, whole and damaged.
-fn both_turns(file: File, d: Dice, tally: Tally) -> Tally {
-    let good = file.bytes;
-    let all: &[u8] = &good;
-    let t = opened_turn(first(all, file.length), tally);
-    let hurt = damaged(file, rolled(d));
-    let bad = hurt.bytes;
-    let rest: &[u8] = &bad;
-    damaged_turn(first(rest, hurt.length), t)
-}
-
-// A job file of the trace, unless Write refuses to make one.
-pub fn file_turn(draft: Draft, tally: Tally) -> Tally {
-    let n = length_of(draft);
-    let bytes = draft.bytes;
-    let whole: &[u8] = &bytes;
-    let file = written(first(whole, n), draft.n, draft.dice);
-    let t = held(seen(seen(tally, file.refusal), file.short), file.agree);
-    if file.refusal != 0 {
-        return t;
+    // One trace with a latency of 65,535 somewhere, whose rows are many.
+    pub fn long_turn(&mut self, case: &Case) {
+        let Some(run) = case.settled() else {
+            return self.note(false);
+        };
+        self.compared(case.hit_cycles);
+        self.rows_turn(&run);
     }
-    both_turns(file, draft.dice, t)
-}
 
-fn broken_turn(body: &[u8], lawful: &[u8], hit_cycles: u32, tally: Tally) -> Tally {
-    let number = model::settled_refusal(body, hit_cycles);
-    let agree = refusals_agree(body, lawful, hit_cycles);
-    let mut t = held(seen(tally, number), agree);
-    t.refusals = more(t.refusals, 1);
-    t
-}
+    // Best and worst against all settlings, where there are at most 64.
+    pub fn unknown_turn(&mut self, case: &Case, d: Dice) {
+        let unknown = model::unknowns(case.body);
+        if unknown > FEW {
+            return;
+        }
+        let Some(times) = case.times() else {
+            return self.note(false);
+        };
+        self.compared(case.hit_cycles);
+        self.note(case.is_within(times));
+        self.bounds.add_one();
+        self.settlings.add(1 << unknown);
+        self.margin_turn(case, times.worst, d);
+    }
 
-// The refusals of a body that may be broken, by every call that takes one and by Write.
-pub fn refusal_turn(draft: Draft, hit_cycles: u32, tally: Tally) -> Tally {
-    let n = length_of(draft);
-    let bytes = draft.bytes;
-    let whole: &[u8] = &bytes;
-    let hurt = broken(draft, rolled(rolled(draft.dice)));
-    let bad = hurt.bytes;
-    let all: &[u8] = &bad;
-    let body = first(all, hurt.length);
-    let t = broken_turn(body, first(whole, n), hit_cycles, tally);
-    let file = written(body, hurt.length / RECORD_SIZE, draft.dice);
-    held(seen(t, file.refusal), file.agree)
+    // What each call answers to a trace that 17 declines, and Alike beside a slower one that it may accept.
+    pub fn declined_turn(&mut self, draft: &Draft, hit_cycles: u32) {
+        let later = slower(draft, true);
+        let case = Case::of(draft, hit_cycles);
+        self.note(case.is_refused_as_told(&Case::of(&later, hit_cycles)));
+        self.declined.add_one();
+    }
+
+    fn open_turn(&mut self, file: &[u8], trace: u32) {
+        self.seen.add(&locate(file, trace));
+        self.note(file_agrees(file));
+    }
+
+    // A job file of the trace, whole and damaged, unless Write refuses to make one.
+    pub fn file_turn(&mut self, draft: &Draft) {
+        let Written { file, short, agree } = Written::of(draft.body(), draft.dice);
+        self.seen.add(&file);
+        self.seen.add(&short);
+        self.note(agree);
+        let Ok(mut file) = file else {
+            return;
+        };
+        self.open_turn(file.as_slice(), 3);
+        self.files.add_one();
+        damage(&mut file, draft.dice.rolled());
+        self.open_turn(file.as_slice(), 0);
+        self.damaged.add_one();
+    }
+
+    // The refusals of a body that may be broken, by every call that takes one and by Write.
+    pub fn refusal_turn(&mut self, draft: &Draft, hit_cycles: u32) -> Result<(), CapacityError> {
+        let hurt = broken(draft, draft.dice.rolled().rolled())?;
+        let case = Case {
+            body: hurt.as_slice(),
+            hit_cycles,
+        };
+        self.seen.add(&check_settled(case.body, hit_cycles));
+        self.note(case.is_refused_as_told(&Case::of(draft, hit_cycles)));
+        self.refusals.add_one();
+        let written = Written::of(case.body, draft.dice);
+        self.seen.add(&written.file);
+        self.note(written.agree);
+        Ok(())
+    }
 }

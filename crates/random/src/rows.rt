@@ -1,96 +1,59 @@
 // Every row of a trace: what Run gives at every limit and what Step makes of each state, against the
 // model's places cycle after cycle.
+use crate::case::Settled;
+use crate::tally::Tally;
 use machine::{Slot, State};
-use pipeline::{Stepped, step};
-use running::run;
+use model::{Core, Stage};
+use pipeline::step;
+use running::{Progress, run};
 
-// How many rows were compared, and whether all agreed.
-#[derive(Clone, Copy, Drop)]
-pub struct Compared {
-    pub compared: u32,
-    pub agree: bool,
+fn slot_of(core: &Core<12>, stage: Stage) -> Slot {
+    core.in_stage(stage)
+        .map_or(Slot::EMPTY, |s| Slot::holding(s.index as u32, s.count))
 }
 
-fn same_slot<'a>(s: Slot, body: &'a [u8], stages: &'a [u8], counts: &'a [u32], stage: u8) -> bool {
-    let m = model::in_stage(body, stages, counts, stage);
-    s.filled == m.filled && s.index as usize == m.index && s.count == m.count
-}
-
-pub fn same_state<'a>(s: State, body: &'a [u8], stages: &'a [u8], counts: &'a [u32]) -> bool {
-    if s.fetched as usize != model::fetched(body, stages) {
-        return false;
+fn state_of(core: &Core<12>) -> State {
+    State {
+        fetched: core.fetched() as u32,
+        IF: slot_of(core, Stage::IF),
+        ID: slot_of(core, Stage::ID),
+        EX: slot_of(core, Stage::EX),
+        MEM: slot_of(core, Stage::MEM),
+        ST: slot_of(core, Stage::ST),
+        WB: slot_of(core, Stage::WB),
     }
-    same_slot(s.IF, body, stages, counts, model::IF)
-        && same_slot(s.ID, body, stages, counts, model::ID)
-        && same_slot(s.EX, body, stages, counts, model::EX)
-        && same_slot(s.MEM, body, stages, counts, model::MEM)
-        && same_slot(s.ST, body, stages, counts, model::ST)
-        && same_slot(s.WB, body, stages, counts, model::WB)
 }
 
-// Run gives the model's row after `cycle` cycles; past the finishing time the run has stopped
-// there.
-fn row_agrees<'a>(
-    cycle: u32,
-    finish: u32,
-    body: &'a [u8],
-    stages: &'a [u8],
-    counts: &'a [u32],
-    hit_cycles: u32,
-) -> bool {
-    let ran = run(body, cycle, hit_cycles);
-    let cycles = if cycle < finish { cycle } else { finish };
-    ran.refusal == 0
-        && ran.cycles == cycles
-        && ran.left == model::all_left(body, stages)
-        && same_state(ran.state, body, stages, counts)
-}
-
-// Step gives the model's next row.
-fn step_agrees<'a>(next: Stepped, body: &'a [u8], stages: &'a [u8], counts: &'a [u32]) -> bool {
-    next.refusal == 0 && same_state(next.state, body, stages, counts)
-}
-
-// How many rows are compared; the cap of a million is never reached.
-fn stepped_rows(finish: u32) -> u32 {
-    if finish < 1000000 {
-        return finish + 1;
+impl Settled<'_> {
+    // Run gives the model's row after so many cycles; past the finishing time the run has stopped there.
+    fn runs_to(&self, cycles: u32, row: &Core<12>) -> bool {
+        let told = Progress {
+            state: state_of(row),
+            cycles: cycles.min(self.time),
+            left: row.all_left(),
+        };
+        run(self.case.body, cycles, self.case.hit_cycles) == Ok(told)
     }
-    1000000
+
+    // Step gives the model's next row.
+    fn steps_to(&self, state: State, next: &Core<12>) -> bool {
+        step(self.case.body, state, self.case.hit_cycles) == Ok(state_of(next))
+    }
 }
 
-// Rows 0 to one past the finishing time, each by Run, and each but the first by Step of the one
-// before.
-fn rows_in(
-    body: &[u8],
-    finish: u32,
-    stages: &mut [u8],
-    counts: &mut [u32],
-    hit_cycles: u32,
-) -> Compared {
-    model::start(body, stages, counts);
-    let mut s = State::start();
-    let end = stepped_rows(finish);
-    for cycle in 0..end {
-        let row = row_agrees(cycle, finish, body, stages, counts, hit_cycles);
-        let next = step(body, s, hit_cycles);
-        model::cycle(body, stages, counts, hit_cycles);
-        if !row || !step_agrees(next, body, stages, counts) {
-            return Compared {
-                compared: cycle,
-                agree: false,
-            };
+impl Tally {
+    // Rows 0 to one past the finishing time, each by Run, and each but the first by Step of the one before.
+    pub fn rows(&mut self, settled: &Settled) {
+        let mut row = settled.core;
+        for cycles in 0..=settled.time {
+            let ran = settled.runs_to(cycles, &row);
+            let state = state_of(&row);
+            row.cycle(settled.case.hit_cycles);
+            if !ran || !settled.steps_to(state, &row) {
+                return self.note(false);
+            }
+            self.rows.add_one();
         }
-        s = next.state;
+        self.note(settled.runs_to(settled.time.saturating_add(1), &row));
     }
-    Compared {
-        compared: end,
-        agree: row_agrees(end, finish, body, stages, counts, hit_cycles),
-    }
-}
-
-pub fn rows(body: &[u8], finish: u32, hit_cycles: u32) -> Compared {
-    let mut stages = [0u8; 16];
-    let mut counts = [0u32; 16];
-    rows_in(body, finish, &mut stages, &mut counts, hit_cycles)
 }

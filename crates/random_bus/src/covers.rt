@@ -1,13 +1,12 @@
 // The time given against every trace that it has to cover: "It must hold for every settling of the flags and every
 // added wait from 0 to d on each missed access" (document 02, F-1).
-ghost use Rattle.std.specs.Prelude.{◌<◌, ◌≤◌};
-
-use crate::counts::{above, greater};
-use crate::rows::{Busy, watch};
-use bus::bus_time;
-use model_bus::Watched;
-use random_traces::{Dice, first, more, one_more_if, part};
-use timing::{Finished, finish};
+use crate::calls::Call;
+use crate::rows::watch;
+use model::Core;
+use random_traces::{Count, Dice};
+use record::Refusal;
+use std::ops::Range;
+use timing::finish;
 
 // A trace with more accesses marked miss or unknown has too many versions: of these some are run.
 const FEW: u32 = 4;
@@ -18,219 +17,139 @@ const SOME: u32 = 2;
 const VERSIONS: u32 = 625;
 
 // How many traces attain the time given, how many do not, and by how much at most.
-#[derive(Clone, Copy, Drop)]
+#[derive(Clone, Copy, Debug, Default)]
 pub struct Attained {
-    pub exact: u32,
-    pub short: u32,
+    pub exact: Count,
+    pub short: Count,
     pub gap: u32,
 }
 
 // Traces, those that 17 declined, and of the others those with h above 0 and those of which every version was run;
 // their versions, the rows of these, and the rows with an access under way; what is attained, in all of which every
 // version was run and in those with one missed access and no unknown one; what does not hold.
-#[derive(Clone, Copy, Drop)]
+#[derive(Clone, Copy, Debug, Default)]
 pub struct Covers {
-    pub traces: u32,
-    pub declined: u32,
-    pub with_hits: u32,
-    pub whole: u32,
-    pub versions: u32,
-    pub rows: u32,
-    pub busy: u32,
+    pub traces: Count,
+    pub declined: Count,
+    pub with_hits: Count,
+    pub whole: Count,
+    pub versions: Count,
+    pub rows: Count,
+    pub busy: Count,
     pub all: Attained,
     pub single: Attained,
-    pub wrong: u32,
+    pub wrong: Count,
 }
 
-fn none_attained() -> Attained {
-    Attained {
-        exact: 0,
-        short: 0,
-        gap: 0,
-    }
-}
-
-pub fn no_covers() -> Covers {
-    Covers {
-        traces: 0,
-        declined: 0,
-        with_hits: 0,
-        whole: 0,
-        versions: 0,
-        rows: 0,
-        busy: 0,
-        all: none_attained(),
-        single: none_attained(),
-        wrong: 0,
-    }
-}
-
-// Of all versions of a trace: how many there are, the greatest finishing time, their rows, how many of these have an
-// access under way, the most in a row of the engine's or of the model's, and whether the two agree on all finishing times
-// and on how many rows have an access under way.
-#[derive(Clone, Copy, Drop)]
-struct Outcome {
-    versions: u32,
+// Of the versions of a trace: how many there are, the greatest finishing time, their rows, how many of these have an
+// access under way, the most in a row of the engine's or of the model's, and whether the two differ on a finishing time
+// or on how many rows have an access under way.
+#[derive(Clone, Copy, Debug, Default)]
+struct Versions {
+    number: u64,
     greatest: u32,
-    rows: u32,
-    busy: u32,
-    most: u32,
-    agree: bool,
+    rows: u64,
+    busy: u64,
+    most: usize,
+    differ: bool,
 }
 
-fn no_version() -> Outcome {
-    Outcome {
-        versions: 0,
-        greatest: 0,
-        rows: 0,
-        busy: 0,
-        most: 0,
-        agree: true,
+impl Attained {
+    // A trace more whose versions come so near to the time given.
+    fn add(&mut self, gap: u32) {
+        self.exact.add_one_if(gap == 0);
+        self.short.add_one_if(gap > 0);
+        self.gap = self.gap.max(gap);
     }
 }
 
-// With a version more: its rows by the model and by the engine, the engine's answer, and whether by the model all have
-// left at its end.
-fn with_rows(c: Outcome, seen: Watched, ours: Busy, answer: Finished, left: bool) -> Outcome {
-    let same = (answer.refusal == 0) & (answer.time == seen.rows) & (ours.rows == seen.busy);
-    Outcome {
-        versions: more(c.versions, 1),
-        greatest: greater(c.greatest, answer.time),
-        rows: more(c.rows, seen.rows),
-        busy: more(c.busy, seen.busy),
-        most: greater(c.most, greater(seen.most, ours.most)),
-        agree: c.agree & left & same,
-    }
-}
-
-// With the version that stands in the first bytes of `out`.
-fn with_version(
-    c: Outcome,
-    out: &[u8],
-    length: usize,
-    stages: &mut [u8],
-    counts: &mut [u32],
-    hit_cycles: u32,
-) -> Outcome {
-    let body = first(out, length);
-    let seen = model_bus::watch(body, stages, counts, hit_cycles);
-    let ours = watch(body, seen.rows, hit_cycles);
-    let left = model::all_left(body, stages);
-    with_rows(c, seen, ours, finish(body, hit_cycles), left)
-}
-
-// Every version or, from a choice on, some; each with its rows and its finishing time, by the engine and by the model.
-fn all_versions(
-    body: &[u8],
-    wait: u32,
-    from: u32,
-    every: bool,
-    out: &mut [u8],
-    stages: &mut [u8],
-    counts: &mut [u32],
-    hit_cycles: u32,
-) -> Outcome
-    requires { (wait < 65536) × (from ≤ 4000000000) }
-{
-    let end = from + how_many(every);
-    let mut c = no_version();
-    for choice in from..end {
-        let left = model_bus::version(body, choice, wait, out);
-        if every & (left != 0) {
-            return c;
+impl Versions {
+    // Those of these choices, each with its rows and its finishing time, by the engine and by the model. Every version
+    // has a choice below the first without one.
+    fn run(call: &Call, choices: Range<u32>, every: bool) -> Versions {
+        let mut versions = Versions::default();
+        let mut out = [0; 120];
+        for choice in choices {
+            let left = model_bus::version(call.body, choice, u32::from(call.wait), &mut out);
+            if every && left != 0 {
+                break;
+            }
+            let length = call.body.len().min(out.len());
+            versions.add(&out[..length], call.hit_cycles);
         }
-        c = with_version(c, out, body.len(), stages, counts, hit_cycles);
+        versions
     }
-    c
+
+    // A version more. By the model all have left at its end.
+    fn add(&mut self, body: &[u8], hit_cycles: u32) {
+        let Ok(mut core) = Core::<12>::of(body) else {
+            self.differ = true;
+            return;
+        };
+        let seen = model_bus::watch(&mut core, hit_cycles);
+        let ours = watch(body, seen.rows, hit_cycles);
+        let answer = finish(body, hit_cycles);
+        let same = answer == Ok(seen.rows) && ours.rows == seen.busy;
+        self.number = self.number.saturating_add(1);
+        self.greatest = self.greatest.max(answer.unwrap_or(0));
+        self.rows = self.rows.saturating_add(u64::from(seen.rows));
+        self.busy = self.busy.saturating_add(u64::from(seen.busy));
+        self.most = self.most.max(seen.most).max(ours.most);
+        self.differ |= !same || !core.all_left();
+    }
+
+    // None finishes later than the time given, and none has two accesses under way. The time given is the greatest
+    // where it has to be: over every version, without a wait.
+    fn hold(&self, given: u32, attains: bool) -> bool {
+        let exact = !attains || self.greatest == given;
+        !self.differ && self.greatest <= given && exact && self.most <= 1
+    }
 }
 
-fn how_many(every: bool) -> u32
-    ensures { result ≤ 625 }
-{
-    if every { VERSIONS } else { SOME }
-}
-
-// The first choice: 0 where every version is run.
-fn first_choice(d: Dice, every: bool) -> u32
-    ensures { result ≤ 4000000000 }
-{
+// The choices of every version, or of some.
+fn choices(d: Dice, every: bool) -> Range<u32> {
     if every {
-        return 0;
+        return 0..VERSIONS;
     }
-    part(d, 8, 65536) * 61000 + part(d, 24, 65536) % 61000
+    let first = d.part(8, 65536) * 61000 + d.part(24, 65536) % 61000;
+    first..first + SOME
 }
 
-fn covered(body: &[u8], wait: u32, from: u32, every: bool, hit_cycles: u32) -> Outcome
-    requires { (wait < 65536) × (from ≤ 4000000000) }
-{
-    let mut out = [0u8; 120];
-    let mut stages = [0u8; 12];
-    let mut counts = [0u32; 12];
-    all_versions(
-        body,
-        wait,
-        from,
-        every,
-        &mut out,
-        &mut stages,
-        &mut counts,
-        hit_cycles,
-    )
-}
-
-// No version finishes later than the time given, and none has two accesses under way. The time given is the greatest
-// where it has to be: over every version, without a wait.
-fn holds(c: Outcome, given: u32, attains: bool) -> bool {
-    let exact = !attains | (c.greatest == given);
-    c.agree & (c.greatest <= given) & exact & (c.most <= 1)
-}
-
-// With a trace more whose versions come so near to the time given, where that is asked.
-fn with_gap(a: Attained, gap: u32, asked: bool) -> Attained {
-    if !asked {
-        return a;
-    }
-    Attained {
-        exact: one_more_if(a.exact, gap == 0),
-        short: one_more_if(a.short, gap > 0),
-        gap: greater(a.gap, gap),
-    }
-}
-
-// With a trace more that 17 declines: there is no time to cover.
-fn with_declined(t: Covers, right: bool) -> Covers {
-    let mut u = t;
-    u.traces = more(t.traces, 1);
-    u.declined = more(t.declined, 1);
-    u.wrong = one_more_if(t.wrong, !right);
-    u
-}
-
-// The versions for a wait from 0 to 3. Whether the time given is attained is asked where every version is run and
-// there is something to add.
-pub fn cover_turn(body: &[u8], d: Dice, hit_cycles: u32, t: Covers) -> Covers {
-    let accesses = model_bus::accesses(body);
-    let every = accesses <= FEW;
-    let wait = part(d, 15, 4) % 4;
-    let given = bus_time(body, wait as u16, hit_cycles);
-    if model::hit_refusal(body, hit_cycles) != 0 {
-        return with_declined(t, given.refusal == 17);
-    }
-    let c = covered(body, wait, first_choice(d, every), every, hit_cycles);
-    let right = (given.refusal == 0) & holds(c, given.time, every & (wait == 0));
-    let gap = above(given.time, c.greatest);
-    let asked = every & (accesses > 0) & (wait > 0);
-    let single = asked & (accesses == 1) & (model::unknowns(body) == 0);
-    Covers {
-        traces: more(t.traces, 1),
-        declined: t.declined,
-        with_hits: one_more_if(t.with_hits, hit_cycles > 0),
-        whole: one_more_if(t.whole, every),
-        versions: more(t.versions, c.versions),
-        rows: more(t.rows, c.rows),
-        busy: more(t.busy, c.busy),
-        all: with_gap(t.all, gap, asked),
-        single: with_gap(t.single, gap, single),
-        wrong: one_more_if(t.wrong, !right),
+impl Covers {
+    // The versions for a wait from 0 to 3. Whether the time given is attained is asked where every version is run and
+    // there is something to add. Where 17 declines the trace there is no time to cover.
+    pub fn add(&mut self, body: &[u8], d: Dice, hit_cycles: u32) {
+        let call = Call {
+            body,
+            wait: d.part(15, 4) as u16,
+            hit_cycles,
+        };
+        let given = call.by_engine();
+        self.traces.add_one();
+        if model::check_hits(body, hit_cycles).is_err() {
+            self.declined.add_one();
+            self.wrong.add_one_if(given != Err(Refusal::LongHit));
+            return;
+        }
+        let accesses = model_bus::accesses(body);
+        let every = accesses <= FEW;
+        let versions = Versions::run(&call, choices(d, every), every);
+        let attains = every && call.wait == 0;
+        let right = given.is_ok_and(|g| versions.hold(g.time, attains));
+        self.wrong.add_one_if(!right);
+        self.with_hits.add_one_if(hit_cycles > 0);
+        self.whole.add_one_if(every);
+        self.versions.add(versions.number);
+        self.rows.add(versions.rows);
+        self.busy.add(versions.busy);
+        if every && accesses > 0 && call.wait > 0 {
+            let gap = given
+                .map_or(0, |g| g.time)
+                .saturating_sub(versions.greatest);
+            self.all.add(gap);
+            if accesses == 1 && model::unknowns(body) == 0 {
+                self.single.add(gap);
+            }
+        }
     }
 }

@@ -4,91 +4,71 @@
 
 mod bodies;
 mod calls;
-mod counts;
 mod covers;
 mod print;
 mod rows;
 
-ghost use Rattle.std.specs.Prelude.{◌<◌};
-
-use bodies::{damaged, damaged_length, lengthened, sparse, wait_of};
-use calls::{Calls, call_turn, no_calls};
-use covers::{Covers, cover_turn, no_covers};
-use print::print;
-use random_traces::{Dice, Draft, SEED, Style, first, hits_from, length_of, part, rolled, trace};
+use bodies::{damage, damaged_length, lengthen, make_sparse, wait_of};
+use calls::{Call, Calls};
+use covers::Covers;
+use print::{print_calls, print_covers};
+use random_traces::{Dice, Style, trace};
 use std::io;
 
 const TRACES: u32 = 8000;
 
-#[derive(Clone, Copy, Drop)]
-struct Turn {
-    dice: Dice,
+#[derive(Clone, Copy, Debug, Default)]
+struct Tally {
     calls: Calls,
     covers: Covers,
 }
 
-// The answer for a wait from the whole range, to a body near the border of 15, and to the same damaged.
-fn border_turn(bytes: [u8; 120], draft: Draft, rare: bool, hit_cycles: u32, before: Calls) -> Calls
-    requires { hit_cycles < 17 }
-{
-    let d = rolled(draft.dice);
-    let wait = wait_of(d, hit_cycles);
-    let long = lengthened(bytes, draft.n, wait, d, rare);
-    let all: &[u8] = &long;
-    let t = call_turn(first(all, length_of(draft)), wait, hit_cycles, before);
-    let e = rolled(d);
-    let hurt = damaged(long, e);
-    let rest: &[u8] = &hurt;
-    let n = damaged_length(length_of(draft), e);
-    call_turn(first(rest, n), wait, hit_cycles, t)
-}
-
-// The bytes as they were drawn, or with few missed accesses.
-fn every_other(bytes: [u8; 120], d: Dice, k: u32) -> [u8; 120] {
-    if k % 2 == 0 {
-        return bytes;
-    }
-    sparse(bytes, d)
-}
-
-fn one_more(before: Turn, k: u32) -> Turn {
-    let d = rolled(before.dice);
-    let hit_cycles = hits_from(d);
-    let style = Style {
-        flags: 3,
+fn style_of(d: Dice) -> Style {
+    Style {
+        unknown: true,
         long: false,
-        hit_cycles,
-        near: part(d, 20, 4) == 0,
-    };
-    let draft = trace(before.dice, style);
-    let drawn = draft.bytes;
-    let bytes = every_other(drawn, draft.dice, k);
-    let all: &[u8] = &bytes;
-    let body = first(all, length_of(draft));
-    let covers = cover_turn(body, draft.dice, hit_cycles, before.covers);
-    let calls = border_turn(bytes, draft, k % 64 == 0, hit_cycles, before.calls);
-    let dice = draft.dice;
-    Turn {
-        dice,
-        calls,
-        covers,
+        hit_cycles: d.hit_cycles(),
+        near: d.part(20, 4) == 0,
     }
 }
 
-fn all_turns() -> Turn {
-    let dice = Dice { state: SEED };
-    let mut t = Turn {
-        dice,
-        calls: no_calls(),
-        covers: no_covers(),
-    };
-    for k in 0..TRACES {
-        t = one_more(t, k);
+impl Tally {
+    // The k-th trace: the time for a short wait against what it has to cover; the answer for a wait from the whole
+    // range, to a body near the border of 15, and to the same damaged. Gives the dice after it.
+    fn turn(&mut self, dice: Dice, k: u32) -> Dice {
+        let hit_cycles = dice.rolled().hit_cycles();
+        let draft = trace(dice, style_of(dice.rolled()));
+        let length = draft.body().len();
+        let mut bytes = draft.bytes;
+        if k % 2 != 0 {
+            make_sparse(&mut bytes, draft.dice);
+        }
+        self.covers.add(&bytes[..length], draft.dice, hit_cycles);
+        let d = draft.dice.rolled();
+        let wait = wait_of(d, hit_cycles);
+        lengthen(&mut bytes, &draft, wait, d, k % 64 == 0);
+        self.calls.add(&Call {
+            body: &bytes[..length],
+            wait,
+            hit_cycles,
+        });
+        let d = d.rolled();
+        damage(&mut bytes, d);
+        self.calls.add(&Call {
+            body: &bytes[..damaged_length(length, d)],
+            wait,
+            hit_cycles,
+        });
+        draft.dice
     }
-    t
 }
 
 fn main(rt: HostRuntime) -> io::Result<()> {
-    let t = all_turns();
-    print(&rt, t.calls, t.covers)
+    let mut tally = Tally::default();
+    let mut dice = Dice::SEED;
+    for k in 0..TRACES {
+        dice = tally.turn(dice, k);
+    }
+    print_calls(&rt, &tally.calls)?;
+    print_covers(&rt, &tally.covers)
 }

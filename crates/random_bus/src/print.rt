@@ -1,41 +1,51 @@
 // The counts, a line each.
 use crate::calls::Calls;
 use crate::covers::{Attained, Covers};
-use std::io;
+use std::{fmt, io};
 
-fn count(rt: &impl Print, n: u32, what: &[u8]) -> io::Result<()> {
-    rt.print(n)?;
-    rt.write_all(what)
+impl fmt::Display for Attained {
+    fn fmt<W: fmt::Write>(&self, f: &mut fmt::Formatter<W>) -> fmt::Result {
+        write!(
+            f,
+            "{} attain the time given, {} do not, by at most {} cycles",
+            self.exact, self.short, self.gap
+        )
+    }
 }
 
-fn attained(rt: &impl Print, a: Attained) -> io::Result<()> {
-    count(rt, a.exact, b" attain the time given, ")?;
-    count(rt, a.short, b" do not, by at most ")?;
-    count(rt, a.gap, b" cycles\n")
-}
-
-pub fn print(rt: &impl Print, calls: Calls, covers: Covers) -> io::Result<()> {
-    count(rt, calls.compared, b" answers, ")?;
-    count(rt, calls.wrong, b" on which engine and model differ\n")?;
-    count(rt, calls.lengths, b" of them 10\n")?;
-    count(rt, calls.records, b" of them 8\n")?;
-    count(rt, calls.hits, b" of them 17\n")?;
-    count(rt, calls.latencies, b" of them 15\n")?;
-    count(
-        rt,
-        calls.within,
-        b" that would be 15 for a wait of one cycle more\n",
+pub fn print_calls(rt: &impl Print, calls: &Calls) -> io::Result<()> {
+    println!(rt;
+        "{} answers, {} on which engine and model differ",
+        calls.compared, calls.wrong
     )?;
-    count(rt, calls.with_hits, b" times with h above 0\n")?;
-    count(rt, covers.traces, b" traces, ")?;
-    count(rt, covers.wrong, b" of which do not hold\n")?;
-    count(rt, covers.declined, b" of them declined with 17, ")?;
-    count(rt, covers.with_hits, b" compared with h above 0\n")?;
-    count(rt, covers.whole, b" with every settling and every wait\n")?;
-    count(rt, covers.versions, b" settlings with waits\n")?;
-    count(rt, covers.rows, b" rows, ")?;
-    count(rt, covers.busy, b" with an access under way\n")?;
-    attained(rt, covers.all)?;
-    rt.write_all(b"with one missed access and no unknown one: ")?;
-    attained(rt, covers.single)
+    for number in [10, 8, 17, 15] {
+        println!(rt; "{} of them {number}", calls.seen.number_of(number))?;
+    }
+    println!(rt;
+        "{} that would be 15 for a wait of one cycle more",
+        calls.within
+    )?;
+    println!(rt; "{} times with h above 0", calls.with_hits)
+}
+
+pub fn print_covers(rt: &impl Print, covers: &Covers) -> io::Result<()> {
+    println!(rt;
+        "{} traces, {} of which do not hold",
+        covers.traces, covers.wrong
+    )?;
+    println!(rt;
+        "{} of them declined with 17, {} compared with h above 0",
+        covers.declined, covers.with_hits
+    )?;
+    println!(rt; "{} with every settling and every wait", covers.whole)?;
+    println!(rt; "{} settlings with waits", covers.versions)?;
+    println!(rt;
+        "{} rows, {} with an access under way",
+        covers.rows, covers.busy
+    )?;
+    println!(rt; "{}", covers.all)?;
+    println!(rt;
+        "with one missed access and no unknown one: {}",
+        covers.single
+    )
 }

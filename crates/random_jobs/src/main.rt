@@ -8,82 +8,68 @@ mod lists;
 mod print;
 mod tally;
 
-use calls::{call_turn, on_every_list, refusal_of};
-use files::{File, damaged, made, too_long};
+use arrayvec::CapacityError;
+use calls::Job;
+use files::File;
 use job::table::MAX_TRACES;
-use lists::former_values;
+use lists::{PLACES, former_values};
 use print::print;
-use random_traces::{Dice, SEED, first, hits_from, one_more_if, part, rolled};
+use random_traces::Dice;
+use record::Refusal;
 use std::io;
-use tally::{Tally, nothing};
+use tally::Tally;
 
 const FILES: u32 = 8000;
 
-#[derive(Clone, Copy, Drop)]
-struct Turn {
-    dice: Dice,
-    tally: Tally,
-}
+// One byte more than a file may have.
+const TOO_LONG: usize = 65537;
 
-fn file_turn(file: File, traces: u32, hit_cycles: u32, t: Tally) -> Tally {
-    let bytes = file.bytes;
-    let all: &[u8] = &bytes;
-    on_every_list(
-        first(all, file.length as usize),
-        traces,
-        former_values(file.dice),
-        hit_cycles,
-        t,
-    )
-}
+impl Tally {
+    // A file is counted only where Write made it.
+    fn file(&mut self, job: &Job) {
+        let answer = job.by_engine(&mut [0; PLACES]);
+        self.files.add_one_if(!job.file.is_empty());
+        self.empty.add_one_if(job.traces == 0);
+        self.full.add_one_if(job.traces == MAX_TRACES);
+        self.declined.add_one_if(answer == Err(Refusal::LongHit));
+        self.with_hits
+            .add_one_if(answer.is_ok() && job.hit_cycles > 0);
+    }
 
-// The file is counted only where Write made it.
-fn counted(file: File, traces: u32, hit_cycles: u32, t: Tally) -> Tally {
-    let bytes = file.bytes;
-    let all: &[u8] = &bytes;
-    let refusal = refusal_of(first(all, file.length as usize), hit_cycles);
-    let mut tally = t;
-    tally.files = one_more_if(t.files, file.length != 0);
-    tally.empty = one_more_if(t.empty, traces == 0);
-    tally.full = one_more_if(t.full, traces == MAX_TRACES);
-    tally.declined = one_more_if(t.declined, refusal == 17);
-    tally.with_hits = one_more_if(t.with_hits, (refusal == 0) & (hit_cycles > 0));
-    tally
-}
+    // A file whole, then the same damaged; gives the dice after them.
+    fn turn(&mut self, dice: Dice) -> Result<Dice, CapacityError> {
+        let dice = dice.rolled();
+        let mut file = File::made(dice.part(20, 17), dice, dice.hit_cycles())?;
+        self.file(&file.job());
+        self.calls_on_every_list(&file.job(), &former_values(file.dice));
+        file.damage();
+        self.calls_on_every_list(&file.job(), &former_values(file.dice));
+        Ok(file.dice)
+    }
 
-// A file whole, then the same damaged.
-fn one_more(before: Turn) -> Turn {
-    let d = rolled(before.dice);
-    let traces = part(d, 20, 17);
-    let hit_cycles = hits_from(d);
-    let file = made(traces, d, hit_cycles);
-    let hurt = damaged(file, traces);
-    let whole = file_turn(file, traces, hit_cycles, before.tally);
-    let both = file_turn(hurt, traces, hit_cycles, whole);
-    let dice = hurt.dice;
-    Turn {
-        dice,
-        tally: counted(file, traces, hit_cycles, both),
+    fn all_turns(&mut self) -> Result<(), CapacityError> {
+        let mut dice = Dice::SEED;
+        for _ in 0..FILES {
+            dice = self.turn(dice)?;
+        }
+        Ok(())
+    }
+
+    // A file of one byte too many to open, with a list of three places. It is declined for that, before 17 is.
+    fn long_file(&mut self) {
+        let job = Job {
+            file: &[0; TOO_LONG],
+            traces: 0,
+            hit_cycles: 16,
+        };
+        self.call(&job, 3, &former_values(Dice::SEED));
     }
 }
 
-fn all_turns() -> Tally {
-    let dice = Dice { state: SEED };
-    let tally = nothing();
-    let mut t = Turn { dice, tally };
-    for _ in 0..FILES {
-        t = one_more(t);
-    }
-    let all = t.tally;
-    all
-}
-
-// A file of one byte too many to open, with a list of three places. It is declined for that, before 17 is.
-fn with_long_file(t: Tally) -> Tally {
-    let file = too_long();
-    call_turn(&file, 0, 3, former_values(Dice { state: SEED }), 16, t)
-}
-
-fn main(rt: HostRuntime) -> io::Result<()> {
-    print(&rt, with_long_file(all_turns()))
+fn main(rt: HostRuntime) -> anyhow::Result<()> {
+    let mut tally = Tally::default();
+    tally.all_turns()?;
+    tally.long_file();
+    print(&rt, &tally)?;
+    Ok(())
 }

@@ -2,51 +2,34 @@
 use crate::tally::Tally;
 use std::io;
 
-fn count(rt: &impl Print, n: u32, what: &[u8]) -> io::Result<()> {
-    rt.print(n)?;
-    rt.write_all(what)
+fn files(rt: &impl Print, t: &Tally) -> io::Result<()> {
+    println!(rt; "{} job files, each whole and damaged", t.files)?;
+    println!(rt; "{} of them without a trace, {} with 16", t.empty, t.full)?;
+    println!(rt;
+        "{} of them declined with 17 while whole, {} timed with h above 0",
+        t.declined, t.with_hits
+    )
 }
 
-fn refusal_line(rt: &impl Print, number: u32, times: u32) -> io::Result<()> {
-    if times > 0 {
-        count(rt, times, b" of them refusal ")?;
-        count(rt, number, b"\n")?;
-    }
-    Ok(())
-}
-
-fn refusals(rt: &impl Print, seen: [u32; 18]) -> io::Result<()> {
-    for i in 1..18 {
-        refusal_line(rt, i, seen[i as usize])?;
-    }
-    Ok(())
-}
-
-fn files(rt: &impl Print, t: Tally) -> io::Result<()> {
-    count(rt, t.files, b" job files, each whole and damaged\n")?;
-    count(rt, t.empty, b" of them without a trace, ")?;
-    count(rt, t.full, b" with 16\n")?;
-    count(rt, t.declined, b" of them declined with 17 while whole, ")?;
-    count(rt, t.with_hits, b" timed with h above 0\n")
-}
-
-fn places(rt: &impl Print, t: Tally) -> io::Result<()> {
-    count(rt, t.times, b" times, ")?;
-    count(rt, t.kept, b" other places kept their values\n")?;
-    count(
-        rt,
-        t.unaltered,
-        b" places kept their values where a call was declined\n",
+fn places(rt: &impl Print, t: &Tally) -> io::Result<()> {
+    println!(rt;
+        "{} times, {} other places kept their values",
+        t.times, t.kept
     )?;
-    count(rt, t.wrong, b" lists are not as they have to be\n")
+    println!(rt;
+        "{} places kept their values where a call was declined",
+        t.unaltered
+    )?;
+    println!(rt; "{} lists are not as they have to be", t.wrong)
 }
 
-pub fn print(rt: &impl Print, t: Tally) -> io::Result<()> {
+pub fn print(rt: &impl Print, t: &Tally) -> io::Result<()> {
     files(rt, t)?;
-    count(rt, t.answers, b" answers, ")?;
-    count(rt, t.differ, b" on which engine and model differ\n")?;
-    let seen = t.seen;
-    refusals(rt, seen)?;
-    count(rt, seen[0], b" lists filled with ")?;
+    println!(rt;
+        "{} answers, {} on which engine and model differ",
+        t.answers, t.differ
+    )?;
+    t.seen.for_each_refusal(|number, count| println!(rt; "{count} of them refusal {number}"))?;
+    print!(rt; "{} lists filled with ", t.seen.number_of(0))?;
     places(rt, t)
 }

@@ -1,11 +1,13 @@
 // Random traces for programs that hold the engine against the second model: the generator, bodies drawn from it,
-// and what the programs count with.
+// what the programs count with, and how they hold an answer against another.
 #![tactic(auto)]
 
-mod counts;
+mod count;
 mod dice;
+mod refusal;
 mod traces;
 
-pub use counts::{more, one_more_if};
-pub use dice::{Dice, SEED, damage, part, rolled, small};
-pub use traces::{Draft, Style, first, hits_from, length_of, trace};
+pub use count::{Answers, Count};
+pub use dice::Dice;
+pub use refusal::{Refusal, agree, number_of};
+pub use traces::{Draft, Style, has_data_access, trace};

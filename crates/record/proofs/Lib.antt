@@ -1,3 +1,4 @@
+pub mod Chunks
 pub mod Alike
 pub mod Accepted
 pub mod Instructions

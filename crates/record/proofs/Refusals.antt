@@ -6,6 +6,12 @@ use native.Mathlib.Decide.{ℕ_discrete}
 use native.Mathlib.Nat.{suc-ne-zero}
 use borrow.Author.Tests.{eq-eqb, ne_eqb}
 use Rattle.record.specs.Refusal.{◌then◌, ◌unless◌}
+use Rattle.std.specs.Prelude.{Result, Err}
+use Rattle.std.specs.Result.{IsErrAnd}
+use Rattle.std.proofs.lemmas.Result.{err_from_is_err_and}
+use Rattle.record.specs.Number.{number, refusal_in}
+use Rattle.record.specs.declared.refusal.Refusal.{Refusal}
+use Rattle.record.specs.declared.refusal.Refusal.TheVariants as refusal
 
 pub then_none : (first second : ℕ) → first ≡ 0 → (first then second) ≡ second
 unfolding ◌then◌
@@ -21,6 +27,44 @@ stop second e h = e ∙ sym (then_some _ second (λ q. h (e ∙ q)))
 
 pub go_on : {r q first second : ℕ} → r ≡ first → r ≡ 0 → q ≡ second → q ≡ (first then second)
 go_on e z f = f ∙ sym (then_none _ _ (sym e ∙ z))
+
+-- a check refuses, and the call with it, or lets pass, and the rest of the list decides
+pub some_number : (r : Refusal) → number r ≡ 0 → ⊥
+some_number refusal.TooLong e = suc-ne-zero _ e
+some_number refusal.TooShort e = suc-ne-zero _ e
+some_number refusal.TooManyTraces e = suc-ne-zero _ e
+some_number refusal.CutTable e = suc-ne-zero _ e
+some_number refusal.LargeCount e = suc-ne-zero _ e
+some_number refusal.WrongOffset e = suc-ne-zero _ e
+some_number refusal.WrongEnd e = suc-ne-zero _ e
+some_number refusal.BrokenRecord e = suc-ne-zero _ e
+some_number refusal.OutOfRange e = suc-ne-zero _ e
+some_number refusal.WrongLength e = suc-ne-zero _ e
+some_number refusal.UnknownFlag e = suc-ne-zero _ e
+some_number refusal.NotOrderly e = suc-ne-zero _ e
+some_number refusal.WrongRecords e = suc-ne-zero _ e
+some_number refusal.ShortOutput e = suc-ne-zero _ e
+some_number refusal.LongWait e = suc-ne-zero _ e
+some_number refusal.ShortList e = suc-ne-zero _ e
+some_number refusal.LongHit e = suc-ne-zero _ e
+
+-- what `?` hands on of a check that refused
+pub handed :
+    {A B : Type 0} (answer : Result A Refusal) (r : Refusal) (of : Result A Refusal → B) {b : B} →
+    IsErrAnd answer (λ e. e ≡ r) →
+    of (Err r) ≡ b →
+    of answer ≡ b
+handed answer r of given e = let q = err_from_is_err_and answer given in rw (q.1, q.2) e
+
+pub stopped :
+    {A : Type 0} (answer : Result A Refusal) (r : Refusal) {first : ℕ} (second : ℕ) →
+    IsErrAnd answer (λ e. e ≡ r) →
+    number r ≡ first →
+    refusal_in answer ≡ (first then second)
+stopped answer r second given e = handed answer r refusal_in given (stop second e (some_number r))
+
+pub passed : {q first second : ℕ} → 0 ≡ first → q ≡ second → q ≡ (first then second)
+passed z f = go_on z refl f
 
 -- a list of three may be grouped either way
 pub then_joins : (first second third : ℕ) → (first then second then third) ≡ ((first then second) then third)

@@ -2,7 +2,7 @@
 -- that it gives.
 use Prim.Native.Nat.{ℕ, ◌+◌, ◌<◌, ◌≤◌}
 use mathlib.Core.Bool.{Bool, true, false, not, ◌||◌}
-use mathlib.Core.Path.{◌≡◌, refl, sym, subst}
+use mathlib.Core.Path.{◌≡◌, refl, sym, ap, subst}
 use native.Mathlib.Nat.{le_antisymm}
 use native.Mathlib.Numerals.{add-one}
 use Rattle.machine.specs.Test.{◌and◌, every, none}
@@ -37,6 +37,6 @@ module _ (test : ℕ → Bool) where
   unfolding ◌unless◌
   scan_passed refusal k n e up down = rw (subst (λ (m : ℕ). none test m ≡ true) (le_antisymm down up) e)
 
-  pub scan_found : (refusal k n : ℕ) → none test k ≡ false → n ≤ k → k ≤ n → refusal ≡ (refusal unless none test n)
-  unfolding ◌unless◌
-  scan_found refusal k n e up down = rw (subst (λ (m : ℕ). none test m ≡ false) (le_antisymm down up) e)
+  -- at the end the test that was joined decides
+  pub scan_end : (refusal k n : ℕ) {ok : Bool} → none test k ≡ ok → n ≤ k → k ≤ n → (refusal unless ok) ≡ (refusal unless none test n)
+  scan_end refusal k n {ok} e up down = ap (λ (b : Bool). refusal unless b) (sym (subst (λ (m : ℕ). none test m ≡ ok) (le_antisymm down up) e))

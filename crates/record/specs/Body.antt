@@ -1,5 +1,5 @@
 -- The body: its records, the trace that it stands for, and the refusals that every call shares.
-use Rattle.std.specs.Prelude.{ℕ, zero, suc, ◌+◌, ◌*◌, ◌/◌, ◌%◌, ◌<◌, Bool, ◌&&◌, cond, List, [], ◌∷◌, ◌++◌, ltb, leb, eqb, length, take, drop}
+use Rattle.std.specs.Prelude.{ℕ, Result, Ok, Err, zero, suc, ◌+◌, ◌*◌, ◌/◌, ◌%◌, ◌<◌, Bool, ◌&&◌, cond, List, [], ◌∷◌, ◌++◌, ltb, leb, eqb, length, take, drop}
 use Rattle.machine.specs.Test.{none}
 use Rattle.machine.specs.Instruction.{Trace}
 use Rattle.machine.specs.Hits.{with_hits}
@@ -10,6 +10,8 @@ use Rattle.record.specs.Layout.{record_size, flags_at, fields_from, record_bytes
 use Rattle.record.specs.Rules.{breaks_rules, has_unknown, not_above, instruction_of}
 use Rattle.record.specs.declared.layout.Fields.{Fields}
 use Rattle.record.specs.declared.layout.Read.{Read}
+use Rattle.record.specs.declared.refusal.Refusal.{Refusal}
+use Rattle.record.specs.Number.{number}
 
 -- each number is a byte
 abbrev pub Bytes : List ℕ → Type 0
@@ -100,6 +102,11 @@ no_fields =
       fetch_latency = 0;
       data_latency = 0;
     }
+
+-- the fields with 0, or the refusal's number with zeros
+abbrev pub read_in : Result Fields Refusal → Read
+read_in (Ok f) = record { refusal = 0; fields = f }
+read_in (Err r) = record { refusal = number r; fields = no_fields }
 
 -- "9 if k is not below the part's length divided by ten, rounded down. The fields are the bytes as they stand"
 unfoldable pub read_answer : List ℕ → ℕ → Read

@@ -1,4 +1,5 @@
 pub mod Refusal
+pub mod Number
 pub mod Layout
 pub mod Rules
 pub mod Body

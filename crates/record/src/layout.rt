@@ -1,10 +1,11 @@
 // The nine fields of an instruction's record, read from the bytes as they stand.
-ghost use Rattle.std.specs.Prelude.{◌≡◌, ◌+◌, ◌≤◌, length};
+ghost use Rattle.std.specs.Prelude.{◌≡◌, ◌≤◌};
+ghost use Rattle.std.specs.Simd.{first_chunks};
 ghost use Rattle.machine.specs.State.{max_instructions};
 ghost use Rattle.record.specs.Layout.{record_size, fields_from};
-ghost use Rattle.record.specs.Body.{records, no_fields, read_answer};
+ghost use Rattle.record.specs.Body.{records, no_fields, read_in, read_answer};
 
-use crate::refusal::OUT_OF_RANGE;
+use crate::refusal::Refusal;
 use little_endian::{byte_at, half_at};
 
 // The record's size, and where each field starts in it.
@@ -27,9 +28,9 @@ pub const FETCH_LATENCY: usize = 6;
 pub const DATA_LATENCY: usize = 8;
 
 // Flags are 0 hit, 1 miss, 2 unknown. In bytes that were never checked a flag may be 3, and a kind
-// anything up to 255.
+// anything up to 255; so these are numbers, and C has this struct (`sic_record`).
 #[repr(C)]
-#[derive(Clone, Copy, Drop)]
+#[derive(Clone, Copy, Debug, Default, PartialEq, Eq, Drop)]
 pub struct Fields {
     pub kind: u32,
     pub fetch: u32,
@@ -42,11 +43,26 @@ pub struct Fields {
     pub data_latency: u32,
 }
 
+// A reading as C takes it: the refusal's number and zeros, or 0 and the fields.
 #[repr(C)]
 #[derive(Clone, Copy, Drop)]
 pub struct Read {
     pub refusal: u32,
     pub fields: Fields,
+}
+
+impl From<Result<Fields, Refusal>> for Read {
+    ghost from_gives = { λ answer read. read ≡ read_in answer };
+
+    fn from(answer: Result<Fields, Refusal>) -> Read {
+        match answer {
+            Ok(fields) => Read { refusal: 0, fields },
+            Err(refusal) => Read {
+                refusal: refusal.number(),
+                fields: no_fields(),
+            },
+        }
+    }
 }
 
 // How many records a body has, where its length was checked.
@@ -57,22 +73,28 @@ pub fn count(body: &[u8]) -> u32
     (body.len() / RECORD_SIZE) as u32
 }
 
-// The fields of the record that starts at a byte.
-pub fn fields_from(bytes: &[u8], at: usize) -> Fields
-    requires { at + record_size ≤ length bytes.now }
-    ensures { result ≡ fields_from bytes.now at }
+// The body's whole records, where they lie.
+pub fn records(body: &[u8]) -> &[[u8; RECORD_SIZE]]
+    ensures { result.now ≡ first_chunks record_size (records body.now) body.now }
 {
-    let flags = byte_at(bytes, at + FLAGS);
+    body.as_chunks::<RECORD_SIZE>().0
+}
+
+// The fields of a record.
+pub fn fields_of(bytes: &[u8; RECORD_SIZE]) -> Fields
+    ensures { result ≡ fields_from bytes.now 0 }
+{
+    let flags = byte_at(bytes, FLAGS);
     Fields {
-        kind: byte_at(bytes, at + KIND),
+        kind: byte_at(bytes, KIND),
         fetch: flags % 4,
         access: flags / 4 % 4,
-        source1: byte_at(bytes, at + SOURCE1),
-        source2: byte_at(bytes, at + SOURCE2),
-        target: byte_at(bytes, at + TARGET),
-        execution: byte_at(bytes, at + EXECUTION),
-        fetch_latency: half_at(bytes, at + FETCH_LATENCY),
-        data_latency: half_at(bytes, at + DATA_LATENCY),
+        source1: byte_at(bytes, SOURCE1),
+        source2: byte_at(bytes, SOURCE2),
+        target: byte_at(bytes, TARGET),
+        execution: byte_at(bytes, EXECUTION),
+        fetch_latency: half_at(bytes, FETCH_LATENCY),
+        data_latency: half_at(bytes, DATA_LATENCY),
     }
 }
 
@@ -94,17 +116,20 @@ pub fn no_fields() -> Fields
 }
 
 // The fields of instruction k, whether or not the bytes were checked.
-pub fn fields_at(body: &[u8], k: u32) -> Read
-    ensures { result ≡ read_answer body.now k }
+pub fn fields_at(body: &[u8], k: u32) -> Result<Fields, Refusal>
+    ensures { read_in result ≡ read_answer body.now k }
 {
+    let records = records(body);
     let i = k as usize;
-    if i < body.len() / RECORD_SIZE {
-        let fields = fields_from(body, i * RECORD_SIZE);
-        return Read { refusal: 0, fields };
+    if i < records.len() {
+        return Ok(fields_of(&records[i]));
     }
-    let fields = no_fields();
-    Read {
-        refusal: OUT_OF_RANGE,
-        fields,
-    }
+    Err(Refusal::OutOfRange)
+}
+
+// The same, and all zeros where there is no such instruction.
+pub fn fields_or_zeros(body: &[u8], k: u32) -> Fields
+    ensures { result ≡ (read_answer body.now k).fields }
+{
+    fields_at(body, k).unwrap_or(no_fields())
 }

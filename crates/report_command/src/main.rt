@@ -3,114 +3,88 @@
 // and what to give instead.
 #![tactic(auto)]
 
-mod tell;
+mod complaint;
 
-use deadlines::{Deadline, deadline_of};
-use reading::{WORD_BYTES, arg_count, read_full};
-use report_text::{REPORT_BYTES, report};
+use complaint::Complaint;
+use deadlines::deadline_of;
+use reading::{INPUT_BYTES, WORD_BYTES, arg_count, argument, read_part};
+use report_text::{REPORT_BYTES, try_report};
 use std::io;
 use std::rt::Env;
 
 const MAX_TRACES: usize = 16;
 
-// A word that is longer than the buffer is no deadline.
-fn deadline_in(rt: &impl Env, i: usize) -> Deadline {
+// The number of cycles that argument i is, written as a deadline is. A word that is longer than the
+// buffer is none.
+fn cycles_in(rt: &impl Env, i: usize) -> Option<u32> {
     let mut word = [0u8; WORD_BYTES];
-    match rt.arg(i, &mut word) {
-        Ok(n) => deadline_of(&word[..n]),
-        Err(_) => Deadline {
-            valid: false,
-            cycles: 0,
-        },
-    }
-}
-
-fn keep(deadlines: &mut [u32], i: usize, cycles: u32) {
-    if i >= deadlines.len() {
-        return;
-    }
-    deadlines[i] = cycles;
+    deadline_of(argument(rt, i, &mut word)?)
 }
 
 // Whether the first argument is the option before the cycles of a data hit.
 fn has_option(rt: &impl Env) -> bool {
     let mut word = [0u8; WORD_BYTES];
-    match rt.arg(1, &mut word) {
-        Ok(n) => &word[..n] == b"--hit-cycles".as_slice(),
-        Err(_) => false,
-    }
+    argument(rt, 1, &mut word).is_some_and(|word| word == b"--hit-cycles".as_slice())
 }
 
-// The cycles of a data hit, from the argument after the option, a number of cycles as a deadline is;
-// without the option there are none.
-fn hit_cycles_in(rt: &impl Env, option: bool) -> Deadline {
-    if option {
-        return deadline_in(rt, 2);
-    }
-    Deadline {
-        valid: true,
-        cycles: 0,
-    }
-}
-
-// Puts the deadlines of arguments `first` to the last into the list, as far as it has room, and gives
-// the first argument that is no deadline, or 0.
-fn read_deadlines(rt: &impl Env, first: usize, count: usize, deadlines: &mut [u32]) -> usize {
-    for (k, i) in (first..count).enumerate() {
-        let deadline = deadline_in(rt, i);
-        if !deadline.valid {
-            return i;
-        }
-        keep(deadlines, k, deadline.cycles);
-    }
-    0
-}
-
-// One byte more than a file may have is read, so that a longer input is refused as such.
-fn print_report(rt: &(impl Input + Print), deadlines: &[u32], hit_cycles: u32) -> io::Result<()> {
-    let mut file = [0u8; 65537];
-    let mut text = [0u8; REPORT_BYTES];
-    let length = read_full(&mut rt.reader(), &mut file);
-    let reported = report(&file[..length], deadlines, &mut text, hit_cycles);
-    let end = reported.length;
-    if reported.refusal != 0 {
-        tell::refusal(rt, reported.refusal)
-    } else if end == 0 {
-        tell::misfit(rt, deadlines.len(), reported.traces)
-    } else {
-        rt.write_all(&text[..end])
-    }
-}
-
-// The report against the deadlines from argument `first` on.
-fn report_from(
-    rt: &(impl Env + Input + Print),
+// The deadlines from argument `first` on, at the start of the room that is lent.
+fn deadlines_in<'a>(
+    rt: &impl Env,
     first: usize,
-    count: usize,
-    hit_cycles: u32,
-) -> io::Result<()> {
+    room: &'a mut [u32],
+) -> Result<&'a [u32], Complaint> {
+    let count = arg_count(rt);
     if count <= first {
-        return tell::usage(rt);
+        return Err(Complaint::NoDeadlines);
     }
-    let given = count - first;
-    let mut deadlines = [0u32; MAX_TRACES];
-    let none = read_deadlines(rt, first, count, &mut deadlines);
-    if none != 0 {
-        return tell::no_deadline(rt, none);
+    for (k, i) in (first..count).enumerate() {
+        let cycles = cycles_in(rt, i).ok_or(Complaint::NotDeadline { argument: i })?;
+        if let Some(place) = room.get_mut(k) {
+            *place = cycles;
+        }
     }
-    if given > MAX_TRACES {
-        return tell::too_many(rt, given);
-    }
-    print_report(rt, &deadlines[..given], hit_cycles)
+    let deadlines = count - first;
+    room.get(..deadlines)
+        .ok_or(Complaint::TooManyDeadlines { deadlines })
+}
+
+// The report of the input, at the start of the room that is lent.
+fn report_against<'a>(
+    rt: &impl Input,
+    deadlines: &[u32],
+    hit_cycles: u32,
+    room: &'a mut [u8],
+) -> Result<&'a [u8], Complaint> {
+    let mut input = [0u8; INPUT_BYTES];
+    let file = read_part(&mut rt.reader(), &mut input);
+    let outcome = try_report(file, deadlines, room, hit_cycles)?;
+    let text: &'a [u8] = room;
+    let misfit = Complaint::Misfit {
+        deadlines: deadlines.len(),
+        traces: outcome.traces,
+    };
+    outcome
+        .length
+        .and_then(|length| text.get(..length))
+        .ok_or(misfit)
+}
+
+// Without the option a data hit takes no cycles.
+fn report_of<'a>(rt: &(impl Env + Input), room: &'a mut [u8]) -> Result<&'a [u8], Complaint> {
+    let (first, hit_cycles) = if has_option(rt) {
+        (3, cycles_in(rt, 2).ok_or(Complaint::NotCycles)?)
+    } else {
+        (1, 0)
+    };
+    let mut words = [0u32; MAX_TRACES];
+    let deadlines = deadlines_in(rt, first, &mut words)?;
+    report_against(rt, deadlines, hit_cycles, room)
 }
 
 fn main(rt: HostRuntime) -> io::Result<()> {
-    let count = arg_count(&rt);
-    let option = has_option(&rt);
-    let hits = hit_cycles_in(&rt, option);
-    if !hits.valid {
-        return tell::no_cycles(&rt);
+    let mut room = [0u8; REPORT_BYTES];
+    match report_of(&rt, &mut room) {
+        Ok(text) => rt.write_all(text),
+        Err(complaint) => rt.println(complaint),
     }
-    let first = if option { 3 } else { 1 };
-    report_from(&rt, first, count, hits.cycles)
 }

@@ -6,8 +6,9 @@ ghost use Rattle.record.specs.Rules.{flag_of};
 ghost use Rattle.record.specs.Body.{trace_of, trace_with, body_refusal, timed_refusal};
 ghost use Rattle.report_figures.specs.Figures.{is_unknown, unknown_flags, line_of, met};
 
-use record::{Fields, count, fields_at};
-use timing::best_worst;
+use machine::Flag;
+use passing::finish_settled;
+use record::{Fields, count, fields_or_zeros};
 
 #[derive(Clone, Copy, Drop)]
 pub struct Line {
@@ -23,7 +24,7 @@ pub struct Line {
 fn unknown_of(flag: u32) -> u32
     ensures { (result ≡ is_unknown (flag_of flag)) × (result ≤ 1) }
 {
-    if flag > 1 { 1 } else { 0 }
+    u32::from(flag > 1)
 }
 
 fn unknowns_of(f: Fields) -> u32
@@ -36,13 +37,9 @@ fn unknown_flags(body: &[u8]) -> u32
     requires { body_refusal body.now ≡ 0 }
     ensures { result ≡ unknown_flags (trace_of body.now) }
 {
-    let records = count(body);
     let mut unknown = 0;
-    let mut k = 0;
-    while k < records {
-        let read = fields_at(body, k);
-        unknown += unknowns_of(read.fields);
-        k += 1;
+    for k in 0..count(body) {
+        unknown += unknowns_of(fields_or_zeros(body, k));
     }
     unknown
 }
@@ -51,14 +48,12 @@ pub fn line_of(body: &[u8], number: u32, deadline: u32, hit_cycles: u32) -> Line
     requires { timed_refusal body.now hit_cycles ≡ 0 }
     ensures { result ≡ line_of number (trace_with body.now hit_cycles) deadline }
 {
-    let times = best_worst(body, hit_cycles);
-    let unknown = unknown_flags(body);
     Line {
         number,
         instructions: count(body),
-        unknown,
-        best: times.best,
-        worst: times.worst,
+        unknown: unknown_flags(body),
+        best: finish_settled(body, Flag::Hit, hit_cycles),
+        worst: finish_settled(body, Flag::Miss, hit_cycles),
         deadline,
     }
 }
@@ -67,5 +62,5 @@ pub fn line_of(body: &[u8], number: u32, deadline: u32, hit_cycles: u32) -> Line
 pub fn met_by(line: Line) -> u32
     ensures { (result ≡ met line) × (result ≤ 1) }
 {
-    if line.worst <= line.deadline { 1 } else { 0 }
+    u32::from(line.worst <= line.deadline)
 }

@@ -7,7 +7,9 @@ use borrow.Author.Tests.{lt-ltb, le-ltb}
 use lib.ListN.{length, length-append}
 use lib.IntN.{pos, negsuc, ◌-ℤ◌}
 use Rattle.machine.proofs.Numbers.{Tri, less, equal, more, tri}
-use Rattle.text.specs.Text.{newline, Wrote, decimal, spaces, right}
+use Rattle.text.specs.Text.{newline, decimal, spaces, right}
+use Rattle.text.specs.Pen.{Adds}
+use Rattle.text.specs.declared.pen.Pen.{Pen}
 use Rattle.text.proofs.Pieces.{tens, decimal_one, decimal_few, decimal_short}
 use Rattle.text.proofs.Right.{length_spaces, length_right}
 use Rattle.report_lines.specs.Lines.{signed_text, margin_text, column, line_text, line_bytes}
@@ -15,11 +17,11 @@ use Rattle.report_figures.specs.declared.Line.{Line}
 
 -- where a text of a known width ends
 pub ends
-    : (at width : ℕ) (text before : List ℕ) {afterwards : List ℕ} {end : ℕ} →
+    : (width : ℕ) {text : List ℕ} {before afterwards : Pen} →
     length text ≡ width →
-    Wrote at text before afterwards end →
-    (end ≡ at + width) × Wrote at text before afterwards end
-ends at width text before e wrote = (wrote.0 ∙ ap (λ (n : ℕ). at + n) e, wrote)
+    Adds text before afterwards →
+    (afterwards.at ≡ before.at + width) × Adds text before afterwards
+ends width {before = before} e h = (h.wrote.0 ∙ ap (λ (n : ℕ). before.at + n) e, h)
 
 -- the difference of two numbers, by their order
 minus_over : (a b : ℕ) → b ≤ a → pos a -ℤ pos b ≡ pos (a - b)

@@ -3,11 +3,13 @@
 #![tactic(auto)]
 
 ghost use Rattle.std.specs.Prelude.{◌≡◌, ◌∷◌, ◌+◌, ◌≤◌, ◌<◌, length};
-ghost use Rattle.text.specs.Text.{Wrote, decimal, right};
+ghost use Rattle.text.specs.Text.{decimal, right};
+ghost use Rattle.text.specs.Pen.{Room, Adds};
 ghost use Rattle.report_lines.specs.Lines.{margin_text, column, line_text, line_bytes, hit_text, hit_bytes, last_text, last_bytes};
 
 use report_figures::Line;
-use text::{digits, put_byte, put_decimal, put_padding, put_right, put_text};
+use std::cmp::Ordering;
+use text::{Pen, digits};
 
 const MARGIN_WIDTH: usize = 11;
 
@@ -37,69 +39,67 @@ pub const LAST_BYTES: usize = 10 + 4 + 10 + 15;
 // The most of the line with the cycles of a data hit.
 pub const HIT_BYTES: usize = 22 + 10 + 1;
 
-fn put_signed(out: &mut [u8], at: usize, sign: u8, n: u32) -> usize
-    requires { at + 11 ≤ length out.old }
-    ensures { Wrote at (right 11 (sign ∷ decimal n)) out.old out.new result }
+fn put_signed(pen: &mut Pen, sign: u8, n: u32)
+    requires { Room 11 pen.old }
+    ensures { Adds (right 11 (sign ∷ decimal n)) pen.old pen.new }
 {
-    let padded = put_padding(out, at, 1 + digits(n), MARGIN_WIDTH);
-    let next = put_byte(out, padded, sign);
-    put_decimal(out, next, n)
+    pen.spaces(MARGIN_WIDTH - 1 - digits(n));
+    pen.byte(sign);
+    pen.decimal(n);
 }
 
-fn put_margin(out: &mut [u8], at: usize, deadline: u32, worst: u32) -> usize
-    requires { at + 11 ≤ length out.old }
-    ensures { (result ≡ at + 11) × Wrote at (right 11 (margin_text deadline worst)) out.old out.new result }
+fn put_margin(pen: &mut Pen, deadline: u32, worst: u32)
+    requires { Room 11 pen.old }
+    ensures { (pen.new.at ≡ pen.old.at + 11) × Adds (right 11 (margin_text deadline worst)) pen.old pen.new }
 {
-    if deadline == worst {
-        return put_right(out, at, MARGIN_WIDTH, 0);
+    match deadline.cmp(&worst) {
+        Ordering::Equal => pen.right(MARGIN_WIDTH, 0),
+        Ordering::Greater => put_signed(pen, b'+', deadline - worst),
+        Ordering::Less => put_signed(pen, b'-', worst - deadline),
     }
-    if deadline > worst {
-        return put_signed(out, at, b'+', deadline - worst);
-    }
-    put_signed(out, at, b'-', worst - deadline)
 }
 
-fn put_column(out: &mut [u8], at: usize, width: usize, n: u32) -> usize
-    requires { (length (decimal n) ≤ width) × (at + 2 + width ≤ length out.old) }
-    ensures { (result ≡ at + 2 + width) × Wrote at (column width (decimal n)) out.old out.new result }
+fn put_column(pen: &mut Pen, width: usize, n: u32)
+    requires { (length (decimal n) ≤ width) × Room (2 + width) pen.old }
+    ensures { (pen.new.at ≡ pen.old.at + 2 + width) × Adds (column width (decimal n)) pen.old pen.new }
 {
-    let next = put_padding(out, at, 0, GAP);
-    put_right(out, next, width, n)
+    pen.spaces(GAP);
+    pen.right(width, n);
 }
 
-pub fn put_line(out: &mut [u8], at: usize, line: Line) -> usize
-    requires { (line.number < 100000) × (line.unknown < 10000000) × (at + line_bytes ≤ length out.old) }
-    ensures { (result ≡ at + line_bytes) × Wrote at (line_text line) out.old out.new result }
+pub fn put_line(pen: &mut Pen, line: Line)
+    requires { (line.number < 100000) × (line.unknown < 10000000) × Room line_bytes pen.old }
+    ensures { (pen.new.at ≡ pen.old.at + line_bytes) × Adds (line_text line) pen.old pen.new }
 {
-    let number = put_margin(out, at, line.deadline, line.worst);
-    let instructions = put_column(out, number, NUMBER_WIDTH, line.number);
-    let unknown = put_column(out, instructions, INSTRUCTIONS_WIDTH, line.instructions);
-    let best = put_column(out, unknown, UNKNOWN_WIDTH, line.unknown);
-    let worst = put_column(out, best, TIME_WIDTH, line.best);
-    let deadline = put_column(out, worst, TIME_WIDTH, line.worst);
-    let end = put_column(out, deadline, TIME_WIDTH, line.deadline);
-    put_byte(out, end, b'\n')
+    put_margin(pen, line.deadline, line.worst);
+    put_column(pen, NUMBER_WIDTH, line.number);
+    put_column(pen, INSTRUCTIONS_WIDTH, line.instructions);
+    put_column(pen, UNKNOWN_WIDTH, line.unknown);
+    put_column(pen, TIME_WIDTH, line.best);
+    put_column(pen, TIME_WIDTH, line.worst);
+    put_column(pen, TIME_WIDTH, line.deadline);
+    pen.byte(b'\n');
 }
 
 // Nothing where a data hit takes no cycles.
-pub fn put_hit_cycles(out: &mut [u8], at: usize, hit_cycles: u32) -> usize
-    requires { at + hit_bytes ≤ length out.old }
-    ensures { Wrote at (hit_text hit_cycles) out.old out.new result }
+pub fn put_hit_cycles(pen: &mut Pen, hit_cycles: u32)
+    requires { Room hit_bytes pen.old }
+    ensures { Adds (hit_text hit_cycles) pen.old pen.new }
 {
     if hit_cycles == 0 {
-        return at;
+        return;
     }
-    let number = put_text(out, at, b"cycles of a data hit: ");
-    let end = put_decimal(out, number, hit_cycles);
-    put_byte(out, end, b'\n')
+    pen.text(b"cycles of a data hit: ");
+    pen.decimal(hit_cycles);
+    pen.byte(b'\n');
 }
 
-pub fn put_last(out: &mut [u8], at: usize, met: u32, all: u32) -> usize
-    requires { at + last_bytes ≤ length out.old }
-    ensures { Wrote at (last_text met all) out.old out.new result }
+pub fn put_last(pen: &mut Pen, met: u32, all: u32)
+    requires { Room last_bytes pen.old }
+    ensures { Adds (last_text met all) pen.old pen.new }
 {
-    let of = put_decimal(out, at, met);
-    let whole = put_text(out, of, b" of ");
-    let end = put_decimal(out, whole, all);
-    put_text(out, end, b" deadlines met\n")
+    pen.decimal(met);
+    pen.text(b" of ");
+    pen.decimal(all);
+    pen.text(b" deadlines met\n");
 }

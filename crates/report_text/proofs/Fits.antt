@@ -94,3 +94,8 @@ module _ (file : List ℕ) (h : ℕ) (accepted : timed_file_refusal file h ≡ 0
 
 pub lines_aligned : LinesAligned
 lines_aligned = record { header = header_width; line = λ file h accepted t inside deadline small. line_fits file h accepted t inside deadline }
+
+-- a report has its header at least
+pub report_some : (file deadlines : List ℕ) (h : ℕ) → 0 < length (report_text file deadlines h)
+unfolding report_text header_text column right spaces
+report_some file deadlines h = omega arith

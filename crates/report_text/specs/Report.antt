@@ -1,8 +1,10 @@
 -- The report of a job file against deadlines, as text: the header, a line for each trace, the cycles of a data hit where it takes any, and a last line
 -- that says how many deadlines are met.
-use Rattle.std.specs.Prelude.{ℕ, zero, suc, ◌+◌, ◌*◌, Bool, cond, List, [], ◌++◌, leb, eqb, length, get_or}
+use Rattle.std.specs.Prelude.{ℕ, zero, suc, ◌+◌, ◌*◌, Bool, cond, List, [], ◌++◌, leb, eqb, length, get_or, Option, None, Some, Result, Ok, Err}
 use Rattle.machine.specs.Test.{◌and◌, ◌or◌}
 use Rattle.record.specs.Body.{trace_with}
+use Rattle.record.specs.Number.{number}
+use Rattle.record.specs.declared.refusal.Refusal.{Refusal}
 use Rattle.job.specs.Layout.{traces, max_traces}
 use Rattle.job.specs.Open.{open_body}
 use Rattle.timed_file.specs.Refusal.{timed_file_refusal}
@@ -10,6 +12,7 @@ use Rattle.text.specs.Text.{put}
 use Rattle.report_figures.specs.declared.Line.{Line}
 use Rattle.report_figures.specs.Figures.{line_of, met}
 use Rattle.report_lines.specs.Lines.{header_text, line_text, line_bytes, hit_text, hit_bytes, last_text, last_bytes}
+use Rattle.report_text.specs.declared.whole.Outcome.{Outcome}
 use Rattle.report_text.specs.declared.whole.Reported.{Reported}
 
 -- one deadline stands for every trace; otherwise each trace has its own
@@ -47,6 +50,16 @@ serves deadlines all = eqb deadlines 1 or eqb deadlines all
 -- whether a report is written
 unfoldable pub written : List ℕ → List ℕ → ℕ → ℕ → Bool
 written file deadlines room h = eqb (timed_file_refusal file h) 0 and serves (length deadlines) (traces file) and leb longest room
+
+-- how long a report is; 0 where it is not written
+abbrev pub length_of : Option ℕ → ℕ
+length_of None = 0
+length_of (Some n) = n
+
+-- what the call gives, and where it declines its refusal's number, as one answer
+abbrev pub reported : Result Outcome Refusal → Reported
+reported (Ok r) = record { refusal = 0; traces = r.traces; length = length_of r.length }
+reported (Err r) = record { refusal = number r; traces = 0; length = 0 }
 
 unfoldable pub report_answer : List ℕ → List ℕ → ℕ → ℕ → Reported
 report_answer file deadlines room h =

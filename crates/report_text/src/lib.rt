@@ -4,4 +4,4 @@
 mod figures;
 pub mod whole;
 
-pub use whole::{REPORT_BYTES, Reported, report};
+pub use whole::{Outcome, REPORT_BYTES, Reported, report, try_report};

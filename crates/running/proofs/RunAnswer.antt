@@ -19,10 +19,10 @@ use Rattle.record.specs.Body.{Bytes, trace_with, settled_refusal}
 use Rattle.settling.proofs.Settled.{settled_timed}
 use Rattle.record.proofs.Accepted.{settled_known}
 use Rattle.running.specs.Run.{ran_for, run_answer}
-use Rattle.seats.specs.Inner.{state_seated}
+use Rattle.seats.specs.Inner.{with_fetched}
 use Rattle.under_way.specs.Inner.{state_below, Stopped}
 use Rattle.under_way.specs.declared.seating.Fetched.{Fetched}
-use Rattle.running.specs.declared.running.Ran.{Ran}
+use Rattle.running.specs.declared.answer.Ran.{Ran}
 use Rattle.running.proofs.Stops.{ends_after_all, ends_unfetched, goes_on}
 
 left_by : (end limit : ℕ) → Tri end limit → leb end limit ≡ leb end (min limit end)
@@ -38,7 +38,7 @@ pub state_ran : (trace : Trace) (limit : ℕ) {r : Ran} → r ≡ ran_for trace 
 unfolding ran_for
 state_ran trace limit e = ap (λ (r : Ran). r.state) e ∙ run_stops_state trace limit
 
-module _ (trace : Trace) (limit : ℕ) {r : Fetched} {seats : List ℕ} (at : Stopped trace limit r seats) where
+module _ (trace : Trace) (limit : ℕ) {r : Fetched} {seats : State} (at : Stopped trace limit r seats) where
   -- all are fetched by the limit, or not
   data Ends : Type 0 where
     every_one : r.count ≡ length trace → Ends
@@ -66,7 +66,7 @@ module _ (trace : Trace) (limit : ℕ) {r : Fetched} {seats : List ℕ} (at : St
 
   pub ran
       : {state : State} {cycles : ℕ} →
-      state ≡ state_seated seats r.count →
+      state ≡ with_fetched r.count seats →
       cycles ≡ min limit r.finish →
       record { refusal = 0; state = state; cycles = cycles; left = leb r.finish limit } ≡ ran_for trace limit
   unfolding ran_for

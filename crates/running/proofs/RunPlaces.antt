@@ -12,7 +12,7 @@ use Rattle.machine.proofs.RunStates.{run_places}
 use Rattle.record.specs.Body.{trace_with, settled_refusal}
 use Rattle.running.specs.Run.{ran_for, run_answer}
 use Rattle.running.specs.Claims.{RunGivesPlaces}
-use Rattle.running.specs.declared.running.Ran.{Ran}
+use Rattle.running.specs.declared.answer.Ran.{Ran}
 
 pub run_gives_places : RunGivesPlaces
 unfolding run_answer ran_for after all_pre

@@ -14,12 +14,11 @@ use Rattle.machine.proofs.Finish.{stays_left}
 use Rattle.machine.proofs.Numbers.{Tri, less, equal, more, tri}
 use Rattle.machine.proofs.RunStates.{state_after, run_orderly, run_places}
 use Rattle.machine.proofs.Spots.{place_waiting, not_waiting}
-use Rattle.places.specs.Inner.{numbered}
 use Rattle.seats.specs.Inner.{fetched_with, slot_with, state_with}
 use Rattle.under_way.specs.Inner.{state_below}
 use Rattle.under_way.proofs.RunState.{state_grows, state_ends}
 
-in_pre_adds_nothing : (k : ℕ) (s : State) → state_with (numbered (record { stage = pre; count = 0 })) k s ≡ s
+in_pre_adds_nothing : (k : ℕ) (s : State) → state_with (record { stage = pre; count = 0 }) k s ≡ s
 unfolding state_with fetched_with slot_with
 in_pre_adds_nothing k s = refl
 

@@ -1,11 +1,19 @@
 -- What Run answers: document 01, "What each call does and when it declines".
-use Rattle.std.specs.Prelude.{ℕ, min, false, cond, List, eqb}
+use Rattle.std.specs.Prelude.{ℕ, min, false, cond, List, Result, Ok, Err, eqb}
 use Rattle.machine.specs.Instruction.{Trace}
 use Rattle.machine.specs.Rules.{after, all_left}
 use Rattle.machine.specs.Time.{finish}
 use Rattle.machine.specs.State.{start, state_of}
 use Rattle.record.specs.Body.{trace_with, settled_refusal}
-use Rattle.running.specs.declared.running.Ran.{Ran}
+use Rattle.record.specs.Number.{number}
+use Rattle.record.specs.declared.refusal.Refusal.{Refusal}
+use Rattle.running.specs.declared.running.Progress.{Progress}
+use Rattle.running.specs.declared.answer.Ran.{Ran}
+
+-- what the call gives, and where it declines its refusal's number, as one answer
+abbrev pub ran : Result Progress Refusal → Ran
+ran (Ok r) = record { refusal = 0; state = r.state; cycles = r.cycles; left = r.left }
+ran (Err r) = record { refusal = number r; state = start; cycles = 0; left = false }
 
 -- "goes from the start for at most a 32-bit limit of cycles, and gives the state, the number of cycles run (the smaller of limit and finishing
 -- time) and whether all have left": the state is the one after as many cycles of the rules as the count says

@@ -18,7 +18,7 @@ use Rattle.machine.proofs.Hits.{length_hits, instruction_hits, settle_hits}
 use Rattle.machine.proofs.Window.{Window, Times, times_from, slide, window_before, times_at}
 use Rattle.machine.proofs.WindowBounds.{TimesWithin}
 use Rattle.record.specs.declared.layout.Fields.{Fields}
-use Rattle.record.specs.declared.layout.Read.{Read}
+use Rattle.record.specs.declared.layout.Fields.{Fields}
 use Rattle.record.specs.Rules.{kind_of, flag_of, instruction_of}
 use Rattle.record.specs.Body.{Bytes, records, fields_at, firsts, trace_of, trace_with, max_hit_cycles, body_refusal, timed_refusal, read_answer}
 use Rattle.record.proofs.Accepted.{access_number, few_records, fields_within, timed_accepted, timed_hits, few_cycles}
@@ -126,6 +126,6 @@ module _ (body : List ℕ) where
   unfoldable pub read_first : ℕ → Trace
   read_first k = firsts (λ j. instruction_of (fields_at body j)) k
 
-  pub read_fields : (k : ℕ) → k < records body → {read : Read} → read ≡ read_answer body k → read.fields ≡ fields_at body k
+  pub read_fields : (k : ℕ) → k < records body → {f : Fields} → f ≡ (read_answer body k).fields → f ≡ fields_at body k
   unfolding read_answer
-  read_fields k inside e = ap (λ (r : Read). r.fields) e ∙ rw (lt-ltb _ _ inside)
+  read_fields k inside e = e ∙ rw (lt-ltb _ _ inside)

@@ -10,7 +10,7 @@ ghost use Rattle.entering.specs.Inner.{window_of};
 ghost use Rattle.machine.specs.Time.{max_time};
 ghost use Rattle.schedule.specs.Inner.{times_of, Room};
 
-use decode::{choose, holds_fetches, is_load, is_store, later};
+use decode::{choose, holds_fetches, is_load, is_store};
 use entering::{Window, enter_ex, enter_id, enter_if, enter_last, enter_mem, enter_post};
 use record::Fields;
 
@@ -83,5 +83,5 @@ pub fn slide(w: Window, f: Fields, e: Times) -> Window
 pub fn all_left_by(w: Window) -> u32
     ensures { result ≡ all_left_by (window_of w) }
 {
-    later(w.store_done, w.post)
+    w.store_done.max(w.post)
 }

@@ -1,7 +1,7 @@
-// The instructions under way at a limit, each seated at its stage's number, and the state that the
-// seats stand for. Inner functions for Run's pass.
+// The instructions under way at a limit, each put into the slot where it stands. An inner function for
+// Run's pass.
 #![tactic(auto)]
 
 pub mod seats;
 
-pub use seats::{SEATS, seat, seated};
+pub use seats::seat;

@@ -14,7 +14,7 @@ use report_text::Reported;
 use whole_job::WholeJob;
 use writer::Written;
 
-// A part of a file: where it starts and how long it is.
+// A part of a file as C takes it: where it starts and how long it is, or the refusal's number and zeros.
 #[repr(C)]
 #[derive(Clone, Copy, Drop)]
 pub struct Part {
@@ -28,12 +28,17 @@ pub struct Part {
 pub extern "C" fn sic_open(file: &[u8], trace: u32) -> Part
     ensures { (result ≡ open_part file.now trace) × (take result.length (drop result.start file.now) ≡ open_body file.now trace) }
 {
-    let found = job::locate(file, trace);
-    let body = parts::cut(file, found.start, found.end);
-    Part {
-        refusal: found.refusal,
-        start: found.start,
-        length: body.len(),
+    match job::locate(file, trace) {
+        Ok(bounds) => Part {
+            refusal: 0,
+            start: bounds.start,
+            length: bounds.end - bounds.start,
+        },
+        Err(refusal) => Part {
+            refusal: refusal.number(),
+            start: 0,
+            length: 0,
+        },
     }
 }
 
@@ -41,7 +46,7 @@ pub extern "C" fn sic_open(file: &[u8], trace: u32) -> Part
 pub extern "C" fn sic_write(counts: &[u16], records: &[u8], out: &mut [u8]) -> Written
     ensures { (result ≡ write_answer counts.now records.now (length out.old)) × (out.new ≡ write_output counts.now records.now out.old) }
 {
-    writer::write(counts, records, out)
+    writer::write(counts, records, out).into()
 }
 
 // Whether a view of the body can be made: 10, then 8.
@@ -49,7 +54,10 @@ pub extern "C" fn sic_write(counts: &[u16], records: &[u8], out: &mut [u8]) -> W
 pub extern "C" fn sic_check(body: &[u8]) -> u32
     ensures { result ≡ body_refusal body.now }
 {
-    acceptance::body_refusal(body)
+    match acceptance::check_body(body) {
+        Ok(()) => 0,
+        Err(refusal) => refusal.number(),
+    }
 }
 
 // The fields of instruction k, as the bytes stand.
@@ -57,14 +65,14 @@ pub extern "C" fn sic_check(body: &[u8]) -> u32
 pub extern "C" fn sic_record(body: &[u8], k: u32) -> Read
     ensures { result ≡ read_answer body.now k }
 {
-    record::fields_at(body, k)
+    record::fields_at(body, k).into()
 }
 
 #[unsafe(no_mangle)]
 pub extern "C" fn sic_worst_times(file: &[u8], times: &mut [u32], hit_cycles: u32) -> WholeJob
     ensures { (result ≡ job_answer file.now (length times.old) hit_cycles) × (times.new ≡ job_times file.now times.old hit_cycles) }
 {
-    whole_job::worst_times(file, times, hit_cycles)
+    whole_job::worst_times(file, times, hit_cycles).into()
 }
 
 #[unsafe(no_mangle)]

@@ -19,23 +19,27 @@ pub extern "C" fn sic_start() -> State
 pub extern "C" fn sic_step(body: &[u8], s: State, hit_cycles: u32) -> Stepped
     ensures { result ≡ step_answer body.now s hit_cycles }
 {
-    pipeline::step(body, s, hit_cycles)
+    Stepped::of(s, pipeline::step(body, s, hit_cycles))
 }
 
 // "A second form advances the state in the caller's own storage": what the step by value gives is
-// stored. On a refusal that is the given state, and the refusal's number is given.
+// stored. On a refusal the state stays, and the refusal's number is given.
 #[unsafe(no_mangle)]
 pub extern "C" fn sic_advance(s: &mut State, body: &[u8], hit_cycles: u32) -> u32
     ensures { (result ≡ (step_answer body.now s.old hit_cycles).refusal) × (s.new ≡ (step_answer body.now s.old hit_cycles).state) }
 {
-    let stepped = pipeline::step(body, *s, hit_cycles);
-    *s = stepped.state;
-    stepped.refusal
+    match pipeline::step(body, *s, hit_cycles) {
+        Ok(next) => {
+            *s = next;
+            0
+        }
+        Err(refusal) => refusal.number(),
+    }
 }
 
 #[unsafe(no_mangle)]
 pub extern "C" fn sic_run(body: &[u8], limit: u32, hit_cycles: u32) -> Ran
     ensures { result ≡ run_answer body.now limit hit_cycles }
 {
-    running::run(body, limit, hit_cycles)
+    running::run(body, limit, hit_cycles).into()
 }

@@ -4,11 +4,12 @@ use Rattle.std.specs.Prelude.{true, ◌≡◌}
 use Rattle.machine.specs.Instruction.{Trace, instruction}
 use Rattle.machine.specs.declared.State.{State}
 use Rattle.record.specs.Rules.{instruction_of}
-use Rattle.standing.specs.declared.reading.Standing.{Standing}
+use Rattle.record.specs.declared.layout.Fields.{Fields}
+use Rattle.stages.specs.declared.Stages.{Stages}
 
 -- the fields are those of the trace's instructions in the slots, and in pre those of the next instruction to be fetched; of an empty slot's fields
 -- something is known in MEM only
-pub record Reads (trace : Trace) (s : State) (w : Standing) : Type 0 where
+pub record Reads (trace : Trace) (s : State) (w : Stages Fields) : Type 0 where
   pub pre : instruction_of w.pre ≡ instruction trace s.fetched
   pub IF : s.IF.filled ≡ true → instruction_of w.IF ≡ instruction trace s.IF.index
   pub ID : s.ID.filled ≡ true → instruction_of w.ID ≡ instruction trace s.ID.index

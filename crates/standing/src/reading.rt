@@ -6,24 +6,23 @@ ghost use Rattle.record.specs.Body.{trace_of};
 ghost use Rattle.standing.specs.Inner.{Reads};
 
 use machine::{Slot, State};
-use record::{Fields, fields_at, no_fields};
+use record::{Fields, fields_or_zeros, no_fields};
+use stages::Stages;
 
-// The fields of each slot's instruction, and of the next to be fetched.
+// A state of a body's pipeline, with the fields of each slot's instruction, and of the next to be
+// fetched.
 #[derive(Clone, Copy, Drop)]
-pub struct Standing {
-    pub pre: Fields,
-    pub IF: Fields,
-    pub ID: Fields,
-    pub EX: Fields,
-    pub MEM: Fields,
-    pub ST: Fields,
-    pub WB: Fields,
+pub struct Standing<'a> {
+    pub body: &'a [u8],
+    pub state: State,
+    pub fields: Stages<Fields>,
+    pub ghost reads: { Reads (trace_of body.now) state fields },
 }
 
 fn fields(body: &[u8], k: u32) -> Fields
     ensures { instruction_of result ≡ instruction (trace_of body.now) k }
 {
-    fields_at(body, k).fields
+    fields_or_zeros(body, k)
 }
 
 // The fields of the slot's instruction; for an empty slot no record is read, and nothing is
@@ -37,16 +36,20 @@ fn held_fields(body: &[u8], held: Slot) -> Fields
     no_fields()
 }
 
-pub fn read_stages(body: &[u8], s: State) -> Standing
-    ensures { Reads (trace_of body.now) s result }
+pub fn read_stages<'a>(body: &'a [u8], state: State) -> Standing<'a>
+    ensures { (result.body.now ≡ body.now) × (result.state ≡ state) }
 {
     Standing {
-        pre: fields(body, s.fetched),
-        IF: held_fields(body, s.IF),
-        ID: held_fields(body, s.ID),
-        EX: held_fields(body, s.EX),
-        MEM: fields(body, s.MEM.index),
-        ST: held_fields(body, s.ST),
-        WB: held_fields(body, s.WB),
+        body,
+        state,
+        fields: Stages {
+            pre: fields(body, state.fetched),
+            IF: held_fields(body, state.IF),
+            ID: held_fields(body, state.ID),
+            EX: held_fields(body, state.EX),
+            MEM: fields(body, state.MEM.index),
+            ST: held_fields(body, state.ST),
+            WB: held_fields(body, state.WB),
+        },
     }
 }

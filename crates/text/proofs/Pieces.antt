@@ -1,10 +1,11 @@
 -- Pieces of text put one after the other make one text; upper bounds on the lengths of pieces; and a number's digits are those of the number
 -- divided by ten, and its last digit.
-use Prim.Native.Nat.{ℕ, zero, suc, ◌+◌, ◌*◌, ◌/◌, ◌%◌, ◌≤◌, ◌<◌}
+use Prim.Native.Nat.{ℕ, zero, suc, ◌+◌, ◌*◌, ◌^◌, ◌/◌, ◌%◌, ◌≤◌, ◌<◌, max}
+use native.Mathlib.Nat.{pow-succ'}
 use mathlib.Core.List.{List, [], ◌∷◌, ◌++◌, append-nil}
-use mathlib.Core.Path.{◌≡◌, sym, ap, ap₂, subst, ◌∙◌}
+use mathlib.Core.Path.{◌≡◌, refl, sym, ap, ap₂, subst, ◌∙◌}
 use native.Mathlib.Omega.{arith}
-use borrow.Author.Tests.{lt-ltb, le-ltb, ltb-false}
+use borrow.Author.Tests.{lt-ltb, le-ltb, ltb-true, ltb-false}
 use lib.Dec.{ltb}
 use lib.ListN.{length, take, drop, length-append, length-drop, take-append-drop}
 use lib.Seq.{length-take-le}
@@ -113,3 +114,42 @@ digits_within (suc k) n (failed l) =
 pub decimal_short : (n : ℕ) → length (decimal n) ≤ 10
 unfolding decimal
 decimal_short n = digits_within 10 n (value (ltb n 10))
+
+tens_power : (k : ℕ) → tens k ≡ 10 ^ k
+unfolding tens
+tens_power zero = refl
+tens_power (suc k) = ap (λ (n : ℕ). 10 * n) (tens_power k) ∙ sym (pow-succ' 10 k)
+
+tens_some : (k : ℕ) → 0 < tens k
+unfolding tens
+tens_some zero = omega arith
+tens_some (suc k) = let some = tens_some k in omega arith
+
+decimal_some : (n : ℕ) → n < 4294967296 → Value (ltb n 10) → 1 ≤ length (decimal n)
+decimal_some n h (passed l) = let one = ap (λ (t : List ℕ). length t) (decimal_one n (ltb-true n 10 l)) in omega arith
+decimal_some n h (failed l) = let more = decimal_grows n h (ltb-false n 10 l) in omega arith
+
+-- a number of at least ten to the power k has more than k digits
+decimal_many : (k n : ℕ) → n < 4294967296 → tens k ≤ n → suc k ≤ length (decimal n)
+unfolding tens
+decimal_many zero n h many = decimal_some n h (value (ltb n 10))
+decimal_many (suc k) n h many =
+    let some = tens_some k in
+    let rest = decimal_many k (n / 10) (omega arith) (omega arith) in
+    let more = decimal_grows n h (omega arith) in
+    omega arith
+
+digits_counted : (k n : ℕ) → n < 4294967296 → 0 < n → tens k ≤ n → n < tens (suc k) → k + 1 ≡ length (decimal n)
+digits_counted k n h some low high = let many = decimal_many k n h low in let few = decimal_few k n high in omega arith
+
+digits_none : (k : ℕ) → tens k ≤ 1 → k + 1 ≡ length (decimal 0)
+unfolding tens
+digits_none zero low = ap (λ (t : List ℕ). length t) (sym (decimal_one 0 (omega arith)))
+digits_none (suc k) low = let some = tens_some k in absurd (omega arith)
+
+-- the digits of a number are one more than the greatest power of ten in it; 0 has one
+pub digits_by_power : (k n m : ℕ) → n < 4294967296 → m ≡ max n 1 → 10 ^ k ≤ m → m < 10 * 10 ^ k → k + 1 ≡ length (decimal n)
+unfolding tens
+digits_by_power k zero m h e low high = let power = tens_power k in digits_none k (omega arith)
+digits_by_power k (suc n) m h e low high =
+    let power = tens_power k in digits_counted k (suc n) h (omega arith) (omega arith) (omega arith)

@@ -1,9 +1,7 @@
-// Text for a lent output: bytes, texts, decimal numbers, and numbers right-aligned in a column.
-// Inner functions for other crates: each requires room for its piece.
+// Text for a lent output: a pen, which writes bytes, texts, decimal numbers, and numbers right-aligned in
+// a column. Inner functions for other crates: each requires room for its piece.
 #![tactic(auto)]
 
-pub mod aligned;
-pub mod put;
+pub mod pen;
 
-pub use aligned::{digits, put_padding, put_right};
-pub use put::{put_byte, put_decimal, put_text};
+pub use pen::{Pen, digits};

@@ -9,7 +9,7 @@ use borrow.Author.Tests.{lt-leb, le-leb, ne_eqb, eqb-true}
 use lib.Dec.{leb}
 use Rattle.machine.specs.Test.{none}
 use Rattle.machine.proofs.Connectives.{none_at, none_below, none_fails}
-use Rattle.record.specs.Refusal.{long_hit}
+use Rattle.record.specs.Refusal.{◌unless◌, long_hit}
 use Rattle.record.specs.Body.{max_hit_cycles, hit_refusal, timed_refusal}
 use Rattle.record.proofs.Accepted.{and_true, timed_of}
 use Rattle.record.proofs.Refusals.{then_first, then_second, unless_passed, last_fails, last_passes}
@@ -32,6 +32,15 @@ module _ (file : List ℕ) (h t : ℕ) {n : ℕ} (e : n ≡ hit_refusal (open_bo
   pub lets_pass : n ≡ 0 → declines_at file h t ≡ false
   unfolding declines_at
   lets_pass z = rw (← e, z)
+
+  -- the refusal of a body that 17 declines is 17
+  pub is_long : (n ≡ 0 → ⊥) → n ≡ long_hit
+  unfolding hit_refusal ◌unless◌
+  is_long some = given_only _ e
+    where
+      given_only : (ok : Bool) → n ≡ (long_hit unless ok) → n ≡ long_hit
+      given_only true z = absurd (some z)
+      given_only false z = z
 
 module _ (file : List ℕ) (h : ℕ) where
   pub long_refused : max_hit_cycles < h → long_hit ≡ file_hit_refusal file h

@@ -4,4 +4,4 @@
 
 pub mod refusals;
 
-pub use refusals::timed_file_refusal;
+pub use refusals::check_timed_file;

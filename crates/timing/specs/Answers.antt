@@ -1,13 +1,33 @@
 -- What Finish, Best and worst, Margin and Alike answer: document 01, "What each call does and when it declines". "A refusal gives its number, zeros
 -- for numbers, no for a yes or no". Document 02, F-4: each takes h, and has 17 after 8.
-use Rattle.std.specs.Prelude.{ℕ, false, cond, List, eqb, pos, ◌-ℤ◌}
+use Rattle.std.specs.Prelude.{ℕ, ℤ, Bool, false, cond, List, Result, Ok, Err, eqb, pos, ◌-ℤ◌}
 use Rattle.machine.specs.Time.{finish, best, worst}
 use Rattle.record.specs.Refusal.{◌then◌}
 use Rattle.record.specs.Body.{trace_with, timed_refusal, settled_refusal}
-use Rattle.timing.specs.declared.calls.Finished.{Finished}
-use Rattle.timing.specs.declared.calls.BestAndWorst.{BestAndWorst}
-use Rattle.timing.specs.declared.calls.DeadlineMargin.{DeadlineMargin}
-use Rattle.timing.specs.declared.calls.Likeness.{Likeness}
+use Rattle.record.specs.Number.{number}
+use Rattle.record.specs.declared.refusal.Refusal.{Refusal}
+use Rattle.timing.specs.declared.calls.Extremes.{Extremes}
+use Rattle.timing.specs.declared.answers.Finished.{Finished}
+use Rattle.timing.specs.declared.answers.BestAndWorst.{BestAndWorst}
+use Rattle.timing.specs.declared.answers.DeadlineMargin.{DeadlineMargin}
+use Rattle.timing.specs.declared.answers.Likeness.{Likeness}
+
+-- what a call gives, and where it declines its refusal's number, as one answer
+abbrev pub finished : Result ℕ Refusal → Finished
+finished (Ok t) = record { refusal = 0; time = t }
+finished (Err r) = record { refusal = number r; time = 0 }
+
+abbrev pub extremes : Result Extremes Refusal → BestAndWorst
+extremes (Ok e) = record { refusal = 0; best = e.best; worst = e.worst }
+extremes (Err r) = record { refusal = number r; best = 0; worst = 0 }
+
+abbrev pub margin_left : Result ℤ Refusal → DeadlineMargin
+margin_left (Ok m) = record { refusal = 0; margin = m }
+margin_left (Err r) = record { refusal = number r; margin = pos 0 }
+
+abbrev pub likeness : Result Bool Refusal → Likeness
+likeness (Ok b) = record { refusal = 0; alike = b }
+likeness (Err r) = record { refusal = number r; alike = false }
 
 -- "Finish: 10, 8, 11."
 unfoldable pub finish_answer : List ℕ → ℕ → Finished

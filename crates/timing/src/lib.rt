@@ -2,8 +2,8 @@
 // over the body's records once for each time that it needs (`passing`).
 #![tactic(auto)]
 
+pub mod answers;
 pub mod calls;
 
-pub use calls::{
-    BestAndWorst, DeadlineMargin, Finished, Likeness, alike, best_worst, finish, margin,
-};
+pub use answers::{BestAndWorst, DeadlineMargin, Finished, Likeness};
+pub use calls::{Extremes, alike, best_worst, finish, margin};

@@ -1,5 +1,5 @@
 // The order of the instructions in the pipeline, as a state's slots give it.
-ghost use Rattle.std.specs.Prelude.{◌≡◌, cond, ◌≤◌};
+ghost use Rattle.std.specs.Prelude.{◌≡◌, ◌≤◌};
 ghost use Rattle.machine.specs.Rules.{ST};
 ghost use Rattle.machine.specs.State.{younger};
 ghost use Rattle.machine.specs.declared.State.{State};
@@ -16,29 +16,23 @@ fn in_turn(held: Slot, younger: u64, fetched: u32) -> bool
     !held.filled | (held.index as u64 + younger + 1 == fetched as u64)
 }
 
-fn filled(held: Slot) -> u64
-    ensures { (result ≡ cond held.filled 1 0) × (result ≤ 1) }
-{
-    if held.filled {
-        return 1;
-    }
-    0
-}
-
 // The filled slots among IF to MEM.
 pub fn in_flight(s: State) -> u64
     ensures { (result ≡ younger s ST) × (result ≤ 4) }
 {
-    filled(s.IF) + filled(s.ID) + filled(s.EX) + filled(s.MEM)
+    u64::from(s.IF.filled)
+        + u64::from(s.ID.filled)
+        + u64::from(s.EX.filled)
+        + u64::from(s.MEM.filled)
 }
 
 // The fetched count is at most n; in IF to MEM and in WB the instructions are in turn.
 pub fn in_order(n: u32, s: State) -> bool
     ensures { result ≡ in_order n s }
 {
-    let before_ID = filled(s.IF);
-    let before_EX = before_ID + filled(s.ID);
-    let before_MEM = before_EX + filled(s.EX);
+    let before_ID = u64::from(s.IF.filled);
+    let before_EX = before_ID + u64::from(s.ID.filled);
+    let before_MEM = before_EX + u64::from(s.EX.filled);
     (s.fetched <= n)
         & in_turn(s.IF, 0, s.fetched)
         & in_turn(s.ID, before_ID, s.fetched)

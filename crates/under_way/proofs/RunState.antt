@@ -9,7 +9,6 @@ use Rattle.machine.specs.Instruction.{Trace}
 use Rattle.machine.specs.Rules.{Stage, pre, IF, ID, EX, MEM, ST, WB, post, Places, same}
 use Rattle.machine.specs.State.{start, fetched_below, occupant_below, state_of}
 use Rattle.machine.specs.declared.State.{State}
-use Rattle.places.specs.Inner.{numbered}
 use Rattle.seats.specs.Inner.{fetched_with, slot_with, state_with}
 use Rattle.under_way.specs.Inner.{state_below}
 
@@ -24,7 +23,7 @@ grown : (k count : ℕ) (s : State) (stage : Stage) →
       ST = cond (same stage ST) (record { filled = true; index = k; count = count }) s.ST;
       WB = cond (same stage WB) (record { filled = true; index = k; count = count }) s.WB;
     }
-    ≡ state_with (numbered (record { stage = stage; count = count })) k s
+    ≡ state_with (record { stage = stage; count = count }) k s
 unfolding state_with fetched_with slot_with
 grown k count s pre = refl
 grown k count s IF = refl
@@ -40,7 +39,7 @@ module _ (places : Places) where
   unfolding state_below fetched_below occupant_below
   state_starts = refl
 
-  pub state_grows : (k : ℕ) → state_below places (k + 1) ≡ state_with (numbered (places k)) k (state_below places k)
+  pub state_grows : (k : ℕ) → state_below places (k + 1) ≡ state_with (places k) k (state_below places k)
   unfolding state_below fetched_below occupant_below
   state_grows k = rw (add-one k) (grown k (places k).count (state_below places k) (places k).stage)
 

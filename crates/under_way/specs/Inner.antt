@@ -1,5 +1,5 @@
 -- What Run's pass has done after each instruction, for the pass's own functions; no public contract cites it.
-use Rattle.std.specs.Prelude.{ℕ, ◌≤◌, ◌<◌, List, ◌≡◌, length}
+use Rattle.std.specs.Prelude.{ℕ, ◌≤◌, ◌<◌, ◌≡◌, length}
 use Rattle.machine.specs.Instruction.{Trace}
 use Rattle.machine.specs.Rules.{Places, pre, IF, ID, EX, MEM, ST, WB, after}
 use Rattle.machine.specs.Time.{finish}
@@ -22,11 +22,11 @@ state_below places k =
     }
 
 -- the pass over a trace has come to instruction k: all before it are fetched by the limit, and those under way are seated
-abbrev pub Passed : Trace → ℕ → ℕ → List ℕ → Type 0
+abbrev pub Passed : Trace → ℕ → ℕ → State → Type 0
 Passed trace limit k seats = Seated seats k (state_below (after trace limit) k)
 
 -- the pass has ended: after the last instruction it has the finishing time, and at one that is not fetched by the limit a time that is past it
-pub record Stopped (trace : Trace) (limit : ℕ) (r : Fetched) (seats : List ℕ) : Type 0 where
+pub record Stopped (trace : Trace) (limit : ℕ) (r : Fetched) (seats : State) : Type 0 where
   pub passed : Passed trace limit r.count seats
   pub inside : r.count ≤ length trace
   pub all : r.count ≡ length trace → r.finish ≡ finish trace

@@ -5,14 +5,14 @@ use mathlib.Core.Path.{◌≡◌, refl, sym, ap, ◌∙◌}
 use lib.ListN.{length, drop, get_or, set}
 use lib.Seq.{drop-cons, set_at, append_snoc}
 use Rattle.machine.specs.Time.{finish, settle}
-use Rattle.record.specs.Rules.{flag_of}
+use Rattle.machine.specs.Instruction.{miss}
 use Rattle.record.specs.Body.{firsts, trace_with}
 use Rattle.record.proofs.Instructions.{length_firsts}
 use Rattle.job.specs.Layout.{traces}
 use Rattle.job.specs.Open.{open_body}
 use Rattle.timed_file.specs.Refusal.{timed_file_refusal}
 use Rattle.timed_file.proofs.Hits.{body_timed}
-use Rattle.timing.specs.declared.calls.BestAndWorst.{BestAndWorst}
+use Rattle.timing.specs.declared.answers.BestAndWorst.{BestAndWorst}
 use Rattle.timing.proofs.Answered.{best_worst_given}
 use Rattle.whole_job.specs.Answers.{timed_alone}
 
@@ -27,9 +27,9 @@ one_more f times t inside =
 -- the pass with misses over the body that Open hands back gives the worst time
 module _ (file : List ℕ) (h : ℕ) (passes : timed_file_refusal file h ≡ 0) (t : ℕ) (inside : t < traces file) where
   pub passed_alone :
-      {body : List ℕ} {time : ℕ} → body ≡ open_body file t → time ≡ finish (settle (flag_of 1) (trace_with body h)) → time ≡ timed_alone file h t
+      {body : List ℕ} {time : ℕ} → body ≡ open_body file t → time ≡ finish (settle miss (trace_with body h)) → time ≡ timed_alone file h t
   unfolding timed_alone
   passed_alone e p =
       ap
       (λ (answer : BestAndWorst). answer.worst)
-      (best_worst_given (open_body file t) h (body_timed file h passes t inside) refl (p ∙ ap (λ (b : List ℕ). finish (settle (flag_of 1) (trace_with b h))) e))
+      (best_worst_given (open_body file t) h (body_timed file h passes t inside) refl (p ∙ ap (λ (b : List ℕ). finish (settle miss (trace_with b h))) e))

@@ -1,8 +1,10 @@
 -- What the call answers for a job file and a lent list, and what stands in each place of the list afterwards: document 02, F-2. As of every call, the
 -- order says: "a refused call leaves lent memory unaltered", and document 01: "A refusal gives its number, zeros for numbers".
-use Rattle.std.specs.Prelude.{ℕ, cond, List, ◌++◌, leb, eqb, length, drop}
+use Rattle.std.specs.Prelude.{ℕ, cond, List, ◌++◌, Result, Ok, Err, leb, eqb, length, drop}
 use Rattle.record.specs.Refusal.{◌then◌, ◌unless◌}
 use Rattle.record.specs.Body.{firsts}
+use Rattle.record.specs.Number.{number}
+use Rattle.record.specs.declared.refusal.Refusal.{Refusal}
 use Rattle.job.specs.Layout.{traces}
 use Rattle.job.specs.Open.{open_body}
 use Rattle.timed_file.specs.Refusal.{timed_file_refusal}
@@ -21,6 +23,11 @@ job_refusal file places h = timed_file_refusal file h then (short_list unless le
 -- Best and worst gives of what Open hands back
 unfoldable pub timed_alone : List ℕ → ℕ → ℕ → ℕ
 timed_alone file h t = (best_worst_answer (open_body file t) h).worst
+
+-- the count of traces whose places are filled, or why none is, as one answer
+abbrev pub traces_filled : Result ℕ Refusal → WholeJob
+traces_filled (Ok all) = record { refusal = 0; traces = all }
+traces_filled (Err r) = record { refusal = number r; traces = 0 }
 
 -- a refusal and T
 unfoldable pub job_answer : List ℕ → ℕ → ℕ → WholeJob

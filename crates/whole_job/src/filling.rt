@@ -5,7 +5,7 @@ ghost use Rattle.job.specs.Layout.{traces};
 ghost use Rattle.timed_file.specs.Refusal.{timed_file_refusal};
 ghost use Rattle.whole_job.specs.Answers.{timed_alone};
 
-use decode::MISS;
+use machine::Flag;
 use parts::body_of;
 use passing::finish_settled;
 
@@ -14,7 +14,7 @@ fn worst_time_at(file: &[u8], t: u32, hit_cycles: u32) -> u32
     requires { (timed_file_refusal file.now hit_cycles ≡ 0) × (t < traces file.now) }
     ensures { result ≡ timed_alone file.now hit_cycles t }
 {
-    finish_settled(body_of(file, t), MISS, hit_cycles)
+    finish_settled(body_of(file, t), Flag::Miss, hit_cycles)
 }
 
 fn put_time(times: &mut [u32], t: u32, time: u32)

@@ -4,6 +4,5 @@
 
 pub mod call;
 mod filling;
-pub mod refusal;
 
 pub use call::{WholeJob, worst_times};

@@ -1,10 +1,12 @@
 -- What Write answers and what it leaves in the output: document 01, "What each call does and when it declines".
-use Rattle.std.specs.Prelude.{ℕ, zero, suc, ◌+◌, ◌*◌, cond, List, [], ◌++◌, ltb, leb, eqb, length, get_or, drop}
+use Rattle.std.specs.Prelude.{ℕ, zero, suc, ◌+◌, ◌*◌, cond, List, [], ◌++◌, Result, Ok, Err, ltb, leb, eqb, length, get_or, drop}
 use Rattle.machine.specs.Test.{none}
 use Rattle.record.specs.Refusal.{◌then◌, ◌unless◌}
 use Rattle.record.specs.Layout.{record_size}
 use Rattle.little_endian.specs.Numbers.{half_bytes, word_bytes}
 use Rattle.record.specs.Body.{record_refusal}
+use Rattle.record.specs.Number.{number}
+use Rattle.record.specs.declared.refusal.Refusal.{Refusal}
 use Rattle.job.specs.Refusal.{too_long, too_many_traces, large_count, wrong_records, short_output}
 use Rattle.job.specs.Layout.{max_traces, max_count, max_file, entry_at, before, body_start}
 use Rattle.writer.specs.declared.writing.Written.{Written}
@@ -47,6 +49,11 @@ table_of counts (suc n) = table_of counts n ++ entry_bytes counts n
 -- "contents first. Two bytes: the count T of traces [..] Then T entries of six bytes [..] Then the bodies in entry order."
 unfoldable pub file_of : List ℕ → List ℕ → List ℕ
 file_of counts records = half_bytes (length counts) ++ table_of counts (length counts) ++ records
+
+-- the length that is written, or why nothing is, as one answer
+abbrev pub written : Result ℕ Refusal → Written
+written (Ok n) = record { refusal = 0; length = n }
+written (Err r) = record { refusal = number r; length = 0 }
 
 unfoldable pub write_answer : List ℕ → List ℕ → ℕ → Written
 write_answer counts records room =

@@ -1,6 +1,7 @@
 // Making a job file of counts and joined records in a lent output.
 ghost use Rattle.std.specs.Prelude.{◌≡◌, ◌+◌, ◌<◌, ◌≤◌, ◌++◌, length, take, drop};
 ghost use Rattle.record.specs.Refusal.{◌unless◌};
+ghost use Rattle.record.specs.Number.{refusal_in};
 ghost use Rattle.little_endian.specs.Numbers.{half_bytes, word_bytes};
 ghost use Rattle.job.specs.Layout.{entry_at, entry_size, header_size, max_file, max_traces, body_start};
 ghost use Rattle.writer.specs.Write.{
@@ -9,17 +10,19 @@ ghost use Rattle.writer.specs.Write.{
   counts_refusal,
   write_refusal,
   table_of,
+  written,
   write_answer,
   write_output,
 };
 
-use acceptance::record_refusal;
-use job::refusal::{LARGE_COUNT, SHORT_OUTPUT, TOO_LONG, TOO_MANY_TRACES, WRONG_RECORDS};
+use acceptance::check_records;
 use job::table::{COUNT_IN_ENTRY, ENTRY_SIZE, HEADER_SIZE, MAX_TRACES, RECORD_BYTES};
 use little_endian::{put_half, put_word};
 use machine::State;
+use record::Refusal;
 use record::layout::RECORD_SIZE;
 
+// The answer as C takes it: the refusal's number and no length, or 0 and the file's length.
 #[repr(C)]
 #[derive(Clone, Copy, Drop)]
 pub struct Written {
@@ -27,22 +30,30 @@ pub struct Written {
     pub length: u32,
 }
 
-fn wide(x: u16) -> u32
-    ensures { (result ≡ x) × (result < 65536) }
-{
-    x as u32
+impl From<Result<u32, Refusal>> for Written {
+    ghost from_gives = { λ answer given. given ≡ written answer };
+
+    fn from(answer: Result<u32, Refusal>) -> Written {
+        match answer {
+            Ok(length) => Written { refusal: 0, length },
+            Err(refusal) => Written {
+                refusal: refusal.number(),
+                length: 0,
+            },
+        }
+    }
 }
 
 // 5: a count above 4,096.
-fn counts_refusal(counts: &[u16]) -> u32
-    ensures { result ≡ counts_refusal counts.now }
+fn check_counts(counts: &[u16]) -> Result<(), Refusal>
+    ensures { refusal_in result ≡ counts_refusal counts.now }
 {
-    for t in 0..counts.len() {
-        if wide(counts[t]) > State::MAX_INSTRUCTIONS {
-            return LARGE_COUNT;
+    for n in counts {
+        if u32::from(*n) > State::MAX_INSTRUCTIONS {
+            return Err(Refusal::LargeCount);
         }
     }
-    0
+    Ok(())
 }
 
 fn sum_of(counts: &[u16]) -> u32
@@ -50,38 +61,32 @@ fn sum_of(counts: &[u16]) -> u32
     ensures { (result ≡ sum counts.now) × (result < 1048576) }
 {
     let mut total = 0;
-    for t in 0..counts.len() {
-        total += wide(counts[t]);
+    for n in counts {
+        total += u32::from(*n);
     }
     total
 }
 
 // 3, 5, 13, 1, 8, 14.
-fn write_refusal(counts: &[u16], records: &[u8], room: usize) -> u32
-    ensures { result ≡ write_refusal counts.now records.now room }
+fn check_write(counts: &[u16], records: &[u8], room: usize) -> Result<(), Refusal>
+    ensures { refusal_in result ≡ write_refusal counts.now records.now room }
 {
     if counts.len() > MAX_TRACES as usize {
-        return TOO_MANY_TRACES;
+        return Err(Refusal::TooManyTraces);
     }
-    let large = counts_refusal(counts);
-    if large != 0 {
-        return large;
-    }
+    check_counts(counts)?;
     if records.len() != RECORD_SIZE * sum_of(counts) as usize {
-        return WRONG_RECORDS;
+        return Err(Refusal::WrongRecords);
     }
     let end = HEADER_SIZE as usize + ENTRY_SIZE as usize * counts.len() + records.len();
     if end > State::MAX_FILE_BYTES as usize {
-        return TOO_LONG;
+        return Err(Refusal::TooLong);
     }
-    let broken = record_refusal(records);
-    if broken != 0 {
-        return broken;
-    }
+    check_records(records)?;
     if room < end {
-        return SHORT_OUTPUT;
+        return Err(Refusal::ShortOutput);
     }
-    0
+    Ok(())
 }
 
 fn put_entry(out: &mut [u8], at: usize, offset: u32, n: u32)
@@ -99,8 +104,8 @@ fn put_entries(counts: &[u16], out: &mut [u8])
 {
     let mut at = HEADER_SIZE as usize;
     let mut offset = HEADER_SIZE + ENTRY_SIZE * counts.len() as u32;
-    for t in 0..counts.len() {
-        let n = wide(counts[t]);
+    for count in counts {
+        let n = u32::from(*count);
         put_entry(out, at, offset, n);
         at += ENTRY_SIZE as usize;
         offset += RECORD_BYTES * n;
@@ -114,19 +119,16 @@ fn put_records(records: &[u8], out: &mut [u8], at: usize)
     out[at..at + records.len()].copy_from_slice(records);
 }
 
-pub fn write(counts: &[u16], records: &[u8], out: &mut [u8]) -> Written
-    ensures { (result ≡ write_answer counts.now records.now (length out.old)) × (out.new ≡ write_output counts.now records.now out.old) }
+// The job file of these counts and joined records, at the start of the output; the answer is its
+// length. A refusal leaves the output as it is.
+pub fn write(counts: &[u16], records: &[u8], out: &mut [u8]) -> Result<u32, Refusal>
+    ensures answer { written result ≡ write_answer counts.now records.now (length out.old) }
+    ensures output { out.new ≡ write_output counts.now records.now out.old }
 {
-    let refusal = write_refusal(counts, records, out.len());
-    if refusal != 0 {
-        return Written { refusal, length: 0 };
-    }
+    check_write(counts, records, out.len())?;
     put_half(out, 0, counts.len() as u32);
     put_entries(counts, out);
     let end = HEADER_SIZE as usize + ENTRY_SIZE as usize * counts.len();
     put_records(records, out, end);
-    Written {
-        refusal: 0,
-        length: (end + records.len()) as u32,
-    }
+    Ok((end + records.len()) as u32)
 }

@@ -11,7 +11,7 @@ returns c =
     _
     _
     _
-    c.fields_from-f.ensures
+    c.fields_of-f.ensures
     c.byte_at-flags.ensures.0
-    c.limit.ensures
-    c.limit-2.ensures
+    c.choose.ensures
+    c.choose-2.ensures

@@ -4,4 +4,4 @@ use Rattle.record_rules.proofs.not_above_from.Goals as goal
 
 pub returns : goal.returns
 unfolding not_above
-returns c = rw c.fields_from-f.ensures
+returns c = rw c.fields_of-f.ensures

@@ -4,5 +4,5 @@ use Rattle.record_rules.proofs.unknown_from.Goals as goal
 
 pub returns : goal.returns
 returns c =
-    rw c.fields_from-f.ensures
-    (unknown_is _ (within _ _ c.requires.1 (sized _ _ (λ n. (c.type_inv.bytes n).fits))))
+    rw c.fields_of-f.ensures
+    (unknown_is _ (within _ _ c.requires (sized _ _ c.fits-bytes)))

@@ -1,11 +1,8 @@
 -- at the loop's head the flags of the first k instructions are counted
-use Rattle.std.proofs.Common.{◌≡◌, ◌-◌, ◌*◌, ◌≤◌}
+use Rattle.std.proofs.Common.{◌≡◌, ◌*◌, ◌≤◌}
 use Rattle.schedule.proofs.Accepted.{read_first}
 use Rattle.report_figures.specs.Figures.{unknown_flags}
 use Rattle.report_figures.proofs.unknown_flags.Given as goal
 
 abbrev pub invariant-loop-k : goal.invariant-loop-k
-invariant-loop-k l = (l.k ≤ l.records) × (l.unknown ≡ unknown_flags (read_first l.body l.k)) × (l.unknown ≤ 2 * l.k)
-
-abbrev pub decreases-loop-k : goal.decreases-loop-k
-decreases-loop-k l = l.records - l.k
+invariant-loop-k l = (l.unknown ≡ unknown_flags (read_first l.body l.k)) × (l.unknown ≤ 2 * l.k)

@@ -1,7 +1,8 @@
 -- nothing for 0, else the line
 use Rattle.std.proofs.Common.{◌≡◌, ℕ, zero, suc, [], ◌∷◌, ◌++◌, refl, arith}
 use Rattle.text.specs.Text.{space, newline, decimal}
-use Rattle.text.proofs.Pieces.{wrote_nothing, wrote_then, as_text, decimal_short}
+use Rattle.text.proofs.Pieces.{decimal_short}
+use Rattle.text.proofs.Pens.{adds_nothing, adds_then, adds_as}
 use Rattle.report_lines.specs.Lines.{hit_text}
 use Rattle.report_lines.proofs.put_hit_cycles.Goals as goal
 
@@ -20,15 +21,14 @@ hit_some zero some = absurd (some refl)
 hit_some (suc h) some = refl
 
 pub returns-then-hit_cycles-eq0 : goal.returns-then-hit_cycles-eq0
-returns-then-hit_cycles-eq0 c = as_text _ _ (hit_none _ c.if-hit_cycles-eq0.true) (wrote_nothing _ _ (omega arith))
+returns-then-hit_cycles-eq0 c = adds_as (hit_none _ c.if-hit_cycles-eq0.true) (adds_nothing _ (omega arith))
 
-pub put_decimal-end-requires : goal.put_decimal-end-requires
-put_decimal-end-requires c = let short = decimal_short c.args.hit_cycles in omega arith
+pub decimal-requires : goal.decimal-requires
+decimal-requires c = let short = decimal_short c.args.hit_cycles in omega arith
 
-pub put_byte-requires : goal.put_byte-requires
-put_byte-requires c = let short = decimal_short c.args.hit_cycles in omega arith
+pub byte-requires : goal.byte-requires
+byte-requires c = let short = decimal_short c.args.hit_cycles in omega arith
 
 pub returns : goal.returns
 returns c =
-    as_text _ _ (hit_some _ c.if-hit_cycles-eq0.false)
-    (wrote_then _ _ _ _ (wrote_then _ _ _ _ c.put_text-number.ensures c.put_decimal-end.ensures) c.put_byte.ensures)
+    adds_as (hit_some _ c.if-hit_cycles-eq0.false) (adds_then (adds_then c.text.ensures c.decimal.ensures) c.byte.ensures)

@@ -7,12 +7,12 @@ use Rattle.cycle.proofs.cycling.slot_after.Goals as goal
 
 pub returns-then-arrives : goal.returns-then-arrives
 unfolding slot_after
-returns-then-arrives c = rw c.if-arrives.true
+returns-then-arrives c = rw (c.if-arrives.true, c.holding.ensures)
 
 pub returns-then-old-gone : goal.returns-then-old-gone
 unfolding slot_after
 returns-then-old-gone c =
-    rw (c.if-arrives.false, sym (both c.args.old.filled (not c.args.gone)) ∙ c.if-old-gone.true, c.less.ensures)
+    rw (c.if-arrives.false, sym (both c.args.old.filled (not c.args.gone)) ∙ c.if-old-gone.true, c.holding-then-old-gone.ensures, c.saturating_sub.ensures)
 
 pub returns : goal.returns
 unfolding slot_after

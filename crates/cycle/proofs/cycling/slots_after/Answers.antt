@@ -6,8 +6,9 @@ use Rattle.machine.proofs.BySlots.{standing, stage_before, arrives}
 use Rattle.machine.proofs.HitSlots.{timed_read, leaves_alike, arrives_alike}
 use Rattle.moving.specs.Inner.{bits_of}
 use Rattle.machine.specs.Rules.{IF, ID, EX, MEM, ST, WB, entry}
+use Rattle.record.specs.Body.{trace_of}
 use Rattle.record.specs.Rules.{instruction_of}
-use Rattle.moving.specs.declared.moving.Bits.{Bits}
+use Rattle.moving.specs.Inner.{Bits}
 use Rattle.decode.proofs.Entries.{entry_of}
 use Rattle.cycle.proofs.Slots.{slot_is, state_is, leaves_filled}
 use Rattle.cycle.proofs.cycling.slots_after.Goals as goal
@@ -15,9 +16,12 @@ use Rattle.cycle.proofs.cycling.slots_after.Goals as goal
 pub returns : goal.returns
 unfolding standing stage_before arrives entry instruction_of
 returns c =
-    λ given h m' n'.
+    λ m' n'.
     let a = c.args in
-    let s = a.s in
+    let w = a.standing.now in
+    let s = w.state in
+    let h = w.reads in
+    let given = trace_of w.body.now in
     let hits = a.hit_cycles in
     let trace = with_hits hits given in
     let m = m' ∙ ap bits_of (sym (leaves_alike hits given s)) in

@@ -9,5 +9,5 @@ returns c =
     c.is_store.ensures
     c.choose-hit.ensures
     c.access_misses.ensures
-    c.less.ensures
+    c.saturating_sub.ensures
     c.choose.ensures

@@ -5,4 +5,4 @@ use Rattle.decode.proofs.kinds.access_hits.Goals as goal
 
 pub returns : goal.returns
 unfolding instruction_of
-returns c = hit_number _
+returns c = rw c.flag_number.ensures.0 (hit_number _)

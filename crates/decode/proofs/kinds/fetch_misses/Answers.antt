@@ -5,4 +5,4 @@ use Rattle.decode.proofs.kinds.fetch_misses.Goals as goal
 
 pub returns : goal.returns
 unfolding instruction_of
-returns c = miss_number _
+returns c = rw c.flag_number.ensures.0 (miss_number _)

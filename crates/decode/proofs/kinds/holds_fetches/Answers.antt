@@ -5,4 +5,4 @@ use Rattle.decode.proofs.kinds.holds_fetches.Goals as goal
 
 pub returns : goal.returns
 unfolding instruction_of
-returns c = holding_numbers _
+returns c = rw (c.kind_number.ensures.0, c.kind_number-2.ensures.0) (holding_numbers _)

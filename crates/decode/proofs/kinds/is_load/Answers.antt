@@ -5,4 +5,4 @@ use Rattle.decode.proofs.kinds.is_load.Goals as goal
 
 pub returns : goal.returns
 unfolding instruction_of
-returns c = load_number _
+returns c = rw c.kind_number.ensures.0 (load_number _)

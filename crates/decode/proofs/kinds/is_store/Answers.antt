@@ -5,4 +5,4 @@ use Rattle.decode.proofs.kinds.is_store.Goals as goal
 
 pub returns : goal.returns
 unfolding instruction_of
-returns c = store_number _
+returns c = rw c.kind_number.ensures.0 (store_number _)

@@ -4,10 +4,6 @@ use Rattle.std.proofs.Common.{arith}
 use Rattle.record.specs.Rules.{kind_of}
 use Rattle.decode.proofs.kinds.kind_of.Goals as goal
 
-pub returns-in-0 : goal.returns-in-0
-unfolding kind_of
-returns-in-0 c = rw c.in-0.is
-
 pub returns-in-1 : goal.returns-in-1
 unfolding kind_of
 returns-in-1 c = rw c.in-1.is

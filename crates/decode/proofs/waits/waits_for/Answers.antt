@@ -7,17 +7,17 @@ use Rattle.decode.proofs.Joined.{both_of, either_of}
 use Rattle.decode.proofs.Elsewhere.{waits_elsewhere}
 use Rattle.decode.proofs.waits.waits_for.Goals as goal
 
-pub returns-then-stage-eq-PRE : goal.returns-then-stage-eq-PRE
+pub returns-in-Pre : goal.returns-in-Pre
 unfolding asks_for waits_for
-returns-then-stage-eq-PRE c = rw c.if-stage-eq-PRE.true (either_of c.holds_fetches.ensures (ap not c.fetch_hits.ensures))
+returns-in-Pre c = rw c.in-Pre.is (either_of c.holds_fetches.ensures (ap not c.fetch_hits.ensures))
 
-pub returns-then-stage-eq-ID : goal.returns-then-stage-eq-ID
+pub returns-in-ID : goal.returns-in-ID
 unfolding asks_for waits_for instruction_of
-returns-then-stage-eq-ID c = rw c.if-stage-eq-ID.true (both_of c.is_load.ensures c.reads_in_id.ensures)
+returns-in-ID c = rw c.in-ID.is (both_of c.is_load.ensures c.reads_in_id.ensures)
 
-pub returns-then-stage-eq-EX : goal.returns-then-stage-eq-EX
+pub returns-in-EX : goal.returns-in-EX
 unfolding asks_for
-returns-then-stage-eq-EX c = rw c.if-stage-eq-EX.true (both_of c.is_store.ensures c.misses_data.ensures)
+returns-in-EX c = rw c.in-EX.is (both_of c.is_store.ensures c.misses_data.ensures)
 
-pub returns : goal.returns
-returns c = sym (waits_elsewhere _ c.if-stage-eq-PRE.false c.if-stage-eq-ID.false c.if-stage-eq-EX.false _ _)
+pub returns-in_default : goal.returns-in_default
+returns-in_default c = sym (waits_elsewhere _ c.in_default.not-Pre c.in_default.not-ID c.in_default.not-EX _ _)

@@ -3,4 +3,4 @@ use Rattle.entering.proofs.Steps.{ID_step}
 use Rattle.entering.proofs.stages.enter_id.Goals as goal
 
 pub returns : goal.returns
-returns c = ID_step _ _ _ c.count_in_if.ensures c.later.ensures
+returns c = ID_step _ _ _ c.count_in_if.ensures c.max.ensures

@@ -16,4 +16,4 @@ unfolding instruction_of entry
 overflow_add-from c = omega arith
 
 pub returns : goal.returns
-returns c = MEM_step _ _ _ (c.access_misses.ensures ∙ misses_alone _ c.requires.1) c.choose-store.ensures c.later.ensures c.later-2.ensures
+returns c = MEM_step _ _ _ (c.access_misses.ensures ∙ misses_alone _ c.requires.1) c.choose-store.ensures c.max.ensures c.max-2.ensures

@@ -5,6 +5,7 @@ use Rattle.machine.specs.declared.Slot.{Slot}
 use Rattle.machine.specs.Rules.{IF, EX, MEM, ST, entry}
 use Rattle.machine.proofs.HitSlots.{timed_read}
 use Rattle.record.specs.Rules.{instruction_of}
+use Rattle.record.specs.Body.{trace_of}
 use Rattle.orderly.specs.Inner.{count_of}
 use Rattle.decode.proofs.Entries.{entry_of}
 use Rattle.decode.proofs.Joined.{both_of, cond_under}
@@ -17,8 +18,10 @@ count_under held h = cond_under held.filled _ λ t. ap (leb held.count) (h t)
 pub returns : goal.returns
 unfolding entry instruction_of
 returns c =
-    λ trace h.
-    let s = c.args.s in
+    let w = c.args.w.now in
+    let s = w.state in
+    let h = w.reads in
+    let trace = trace_of w.body.now in
     let hits = c.args.hit_cycles in
     both_of
     (both_of

@@ -9,8 +9,8 @@ use Rattle.orderly.proofs.order.stores_apart.Goals as goal
 
 pub returns : goal.returns
 returns c =
-    λ trace h.
-    let s = c.args.s in
+    let s = c.args.w.now.state in
+    let h = c.args.w.now.reads in
     both_of
     (both_of
     (either _ _ ∙ or_under s.WB.filled (λ t. ap not (c.is_store.ensures ∙ ap (λ (i : Instruction). is_store i.kind) (h.WB t))))

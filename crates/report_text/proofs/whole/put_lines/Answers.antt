@@ -1,5 +1,5 @@
 use Rattle.std.proofs.Common.{◌≡◌, ◌+◌, ◌*◌, ℕ, refl, sym, ap, ap₂, ◌∙◌, add-one, arith}
-use Rattle.text.proofs.Pieces.{wrote_nothing, wrote_then, as_text}
+use Rattle.text.proofs.Pens.{adds_nothing, adds_then, adds_as}
 use Rattle.report_figures.specs.Figures.{met}
 use Rattle.report_lines.specs.Lines.{line_text, line_bytes}
 use Rattle.report_text.specs.Report.{lines_text, met_below}
@@ -8,13 +8,13 @@ use Rattle.report_text.proofs.whole.put_lines.Goals as goal
 
 pub loop-t-init : goal.loop-t-init
 unfolding lines_text met_below
-loop-t-init c = (omega arith, refl, omega arith, omega arith, wrote_nothing _ _ (omega arith))
+loop-t-init c = (refl, omega arith, omega arith, adds_nothing _ (omega arith))
 
 pub line_at-line-requires : goal.line_at-line-requires
 line_at-line-requires c = (c.requires.0, omega arith)
 
-pub put_line-end-requires : goal.put_line-end-requires
-put_line-end-requires c =
+pub put_line-requires : goal.put_line-requires
+put_line-requires c =
     let a = c.args in
     let small =
     line_small a.file.now a.hit_cycles c.requires.0 a.deadlines.now c.loop-t.t (omega arith) c.line_at-line.ensures in
@@ -22,9 +22,6 @@ put_line-end-requires c =
 
 pub overflow_add-met : goal.overflow_add-met
 overflow_add-met c = let few = few_traces _ _ c.requires.0 in omega arith
-
-pub overflow_add-t : goal.overflow_add-t
-overflow_add-t c = let few = few_traces _ _ c.requires.0 in omega arith
 
 pub loop-t-preserved : goal.loop-t-preserved
 unfolding lines_text met_below
@@ -35,12 +32,11 @@ loop-t-preserved c =
     let t = c.loop-t.t in
     let i = c.loop-t.invariant in
     let line = c.line_at-line.ensures in (
+      ap₂ (λ (m n : ℕ). m + n) i.0 (c.met_by-met.ensures.0 ∙ ap met line) ∙ ap (met_below file deadlines a.hit_cycles) (sym (add-one t)),
       omega arith,
-      ap₂ (λ (m n : ℕ). m + n) i.1 (c.met_by-met.ensures.0 ∙ ap met line) ∙ ap (met_below file deadlines a.hit_cycles) (sym (add-one t)),
       omega arith,
-      omega arith,
-      as_text _ _ (ap (lines_text file deadlines a.hit_cycles) (sym (add-one t)))
-          (wrote_then _ _ _ _ i.4 (as_text _ _ (ap line_text line) c.put_line-end.ensures.1)),
+      adds_as (ap (lines_text file deadlines a.hit_cycles) (sym (add-one t)))
+          (adds_then i.3 (adds_as (ap line_text line) c.put_line.ensures.1)),
     )
 
 pub returns : goal.returns
@@ -48,7 +44,7 @@ returns c =
     let a = c.args in
     let i = c.loop-t.invariant in
     let end : c.loop-t.t ≡ a.all = omega arith in (
-      i.1 ∙ ap (met_below a.file.now a.deadlines.now a.hit_cycles) end,
-      i.3 ∙ ap (λ (n : ℕ). a.at + line_bytes * n) end,
-      as_text _ _ (ap (lines_text a.file.now a.deadlines.now a.hit_cycles) end) i.4,
+      i.0 ∙ ap (met_below a.file.now a.deadlines.now a.hit_cycles) end,
+      i.2 ∙ ap (λ (n : ℕ). a.pen.now.at + line_bytes * n) end,
+      adds_as (ap (lines_text a.file.now a.deadlines.now a.hit_cycles) end) i.3,
     )

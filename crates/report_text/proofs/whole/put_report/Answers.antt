@@ -1,7 +1,7 @@
 -- the header, the lines, the cycles of a data hit and the last line are the report
 use Rattle.std.proofs.Common.{ap, ap₂, ◌∙◌, arith}
 use Rattle.text.specs.Text.{spaces, right}
-use Rattle.text.proofs.Pieces.{wrote_then, as_text}
+use Rattle.text.proofs.Pens.{adds_then, adds_as}
 use Rattle.report_lines.specs.Lines.{header_text, column, last_text}
 use Rattle.report_text.specs.Report.{lines_text, met_below, report_text}
 use Rattle.report_text.proofs.Fits.{hit_short}
@@ -18,8 +18,8 @@ returns c =
     let deadlines = a.deadlines.now in
     let h = a.hit_cycles in
     let count = c.requires.1 in
-    wrote_then _ _ _ _
-    (wrote_then _ _ _ _
-    (wrote_then _ _ _ _ c.put_text-first.ensures (as_text _ _ (ap (lines_text file deadlines h) count) c.put_lines-lines.ensures.2))
-    c.put_hit_cycles-last.ensures)
-    (as_text _ _ (ap₂ last_text (c.put_lines-lines.ensures.0 ∙ ap (met_below file deadlines h) count) count) c.put_last.ensures)
+    adds_then
+    (adds_then
+    (adds_then c.text.ensures (adds_as (ap (lines_text file deadlines h) count) c.put_lines-met.ensures.2))
+    c.put_hit_cycles.ensures)
+    (adds_as (ap₂ last_text (c.put_lines-met.ensures.0 ∙ ap (met_below file deadlines h) count) count) c.put_last.ensures)

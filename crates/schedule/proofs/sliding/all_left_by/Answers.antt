@@ -4,4 +4,4 @@ use Rattle.schedule.proofs.sliding.all_left_by.Goals as goal
 
 pub returns : goal.returns
 unfolding all_left_by
-returns c = c.later.ensures
+returns c = c.max.ensures

@@ -1,24 +1,29 @@
 -- `alike` meets its contract: the refusals in their order, then the two finishing times.
-use mathlib.Core.Path.{sym, ◌∙◌}
-use Rattle.record.proofs.Refusals.{stop, go_on}
-use Rattle.record.proofs.Accepted.{settled_timed}
-use Rattle.timing.proofs.Answered.{finish_time, alike_refused, alike_given}
+use Rattle.std.proofs.Common.{sym, ap, ◌∙◌}
+use Rattle.record.proofs.Refusals.{handed, stop, passed, some_number}
+use Rattle.timing.specs.Answers.{likeness}
+use Rattle.timing.specs.declared.answers.Finished.{Finished}
+use Rattle.timing.proofs.Answered.{finish_refusal, finish_is, alike_refused, alike_given}
 use Rattle.timing.proofs.calls.alike.Goals as goal
 
-pub returns-then-of_first-ne0 : goal.returns-then-of_first-ne0
-returns-then-of_first-ne0 c = alike_refused _ _ _ (stop _ c.settled_refusal-of_first.ensures c.if-of_first-ne0.true) c.if-of_first-ne0.true
+pub returns-in_err-time1 : goal.returns-in_err-time1
+returns-in_err-time1 c =
+    handed _ _ likeness c.from_residual.ensures.1
+    (alike_refused _ _ _ (stop _ (ap (λ (f : Finished). f.refusal) c.in_err-time1.ensures ∙ finish_refusal _ _) (some_number _)) (some_number _))
 
-pub returns-then-of_second-ne0 : goal.returns-then-of_second-ne0
-returns-then-of_second-ne0 c = alike_refused _ _ _ (go_on c.settled_refusal-of_first.ensures c.if-of_first-ne0.false c.settled_refusal-of_second.ensures) c.if-of_second-ne0.true
-
-pub finish_settled-time1-requires : goal.finish_settled-time1-requires
-finish_settled-time1-requires c = settled_timed _ _ (sym c.settled_refusal-of_first.ensures ∙ c.if-of_first-ne0.false)
-
-pub finish_settled-time2-requires : goal.finish_settled-time2-requires
-finish_settled-time2-requires c = settled_timed _ _ (sym c.settled_refusal-of_second.ensures ∙ c.if-of_second-ne0.false)
+pub returns-in_err-time2 : goal.returns-in_err-time2
+returns-in_err-time2 c =
+    handed _ _ likeness c.from_residual-in_err-time2.ensures.1
+    (alike_refused _ _ _
+    (passed
+    (ap (λ (f : Finished). f.refusal) c.in_ok-time1.ensures ∙ finish_refusal _ _)
+    (ap (λ (f : Finished). f.refusal) c.in_err-time2.ensures ∙ finish_refusal _ _))
+    (some_number _))
 
 pub returns : goal.returns
 returns c =
-    let one = sym c.settled_refusal-of_first.ensures ∙ c.if-of_first-ne0.false in
-    let two = sym c.settled_refusal-of_second.ensures ∙ c.if-of_second-ne0.false in
-    alike_given _ _ _ one two (finish_time _ _ (λ n. (c.type_inv.first n).fits) one c.finish_settled-time1.ensures) (finish_time _ _ (λ n. (c.type_inv.second n).fits) two c.finish_settled-time2.ensures)
+    let one = ap (λ (f : Finished). f.refusal) c.in_ok-time1.ensures ∙ finish_refusal _ _ in
+    let two = ap (λ (f : Finished). f.refusal) c.in_ok-time2.ensures ∙ finish_refusal _ _ in
+    alike_given _ _ _ (sym one) (sym two)
+    (ap (λ (f : Finished). f.time) c.in_ok-time1.ensures ∙ finish_is _ _ (sym one))
+    (ap (λ (f : Finished). f.time) c.in_ok-time2.ensures ∙ finish_is _ _ (sym two))

@@ -1,5 +1,6 @@
 -- `in_order` meets its contract: each slot with the number of filled slots before it.
 use Rattle.std.proofs.Common.{ℕ, ◌+◌, refl, ap, ap₂, ◌∙◌}
+use Rattle.turns.proofs.Bits.{from_bit}
 use Rattle.machine.specs.State.{younger}
 use Rattle.turns.specs.Inner.{turn_of}
 use Rattle.decode.proofs.Joined.{both_of}
@@ -9,9 +10,9 @@ pub returns : goal.returns
 unfolding younger
 returns c =
     let s = c.args.s in
-    let one = c.filled-before_ID.ensures.0 in
-    let two = ap₂ ◌+◌ one c.filled.ensures.0 in
-    let three = ap₂ ◌+◌ two c.filled-2.ensures.0 in
+    let one = from_bit s.IF.filled c.from-before_ID.ensures in
+    let two = ap₂ ◌+◌ one (from_bit s.ID.filled c.from.ensures) in
+    let three = ap₂ ◌+◌ two (from_bit s.EX.filled c.from-2.ensures) in
     both_of
     (both_of
     (both_of

@@ -4,10 +4,10 @@ use Rattle.job.specs.Layout.{header_size, entry_at, body_start}
 use Rattle.writer.specs.Write.{count, table_of}
 use Rattle.writer.proofs.writing.put_entries.Given as goal
 
-abbrev pub invariant-loop-t : goal.invariant-loop-t
-invariant-loop-t l =
+abbrev pub invariant-loop-count : goal.invariant-loop-count
+invariant-loop-count l =
     record {
-      place : l.at ≡ entry_at l.t;
-      start : l.offset ≡ body_start (length l.counts) (count l.counts) l.t;
-      written : l.out ≡ take header_size l.initial.out ++ table_of l.counts l.t ++ drop l.at l.initial.out;
+      place : l.at ≡ entry_at l.count-index;
+      start : l.offset ≡ body_start (length l.counts) (count l.counts) l.count-index;
+      written : l.out ≡ take header_size l.initial.out ++ table_of l.counts l.count-index ++ drop l.at l.initial.out;
     }

@@ -4,9 +4,9 @@ use Rattle.job.specs.Layout.{before}
 use Rattle.writer.specs.Write.{count}
 use Rattle.writer.proofs.writing.sum_of.Given as goal
 
-abbrev pub invariant-loop-t : goal.invariant-loop-t
-invariant-loop-t l =
+abbrev pub invariant-loop-n : goal.invariant-loop-n
+invariant-loop-n l =
     record {
-      sum : l.total ≡ before (count l.counts) l.t;
-      bound : l.total ≤ 65535 * l.t;
+      sum : l.total ≡ before (count l.counts) l.n-index;
+      bound : l.total ≤ 65535 * l.n-index;
     }
