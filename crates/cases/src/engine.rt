@@ -3,6 +3,9 @@ use crate::calls::{Calls, Refused, number, part};
 use crate::case::Case;
 use crate::{COUNTS, room};
 use bus::BusTime;
+use job::Bounds;
+use opener::inner::open_body;
+use parts::cut;
 use record::{Read, Refusal};
 use running::Progress;
 use timing::Extremes;
@@ -49,17 +52,20 @@ impl Calls for Engine {
         Ok(whole_job::worst_times(case.body, list, case.hit_cycles)?)
     }
 
-    // DECLINED is what declines the file; what Open gives is the file's part from start to end.
+    // DECLINED is what declines the file; what Open gives is the file's part from start to end, and none of
+    // it where Open refuses.
     fn opens(case: &Case<'_>) -> bool {
         let file = case.body;
         let found = job::locate(file, case.argument);
-        let body = found.map(|bounds| file.get(bounds.start..bounds.end).unwrap_or(&[]));
+        let bounds = found.unwrap_or(Bounds { start: 0, end: 0 });
+        let body = cut(file, bounds.start, bounds.end);
         case.tells(
             found
                 .map(|bounds| part(bounds.start..bounds.end))
                 .map_err(Refused::from),
         ) && case.line.number(3) == number(job::check_file(file).map_err(Refused::from))
-            && opener::open(file, case.argument) == body
+            && opener::open(file, case.argument) == found.map(|_| body)
+            && open_body(file, case.argument) == body
     }
 
     // write LENGTH LENT N COUNTS = refusal, length; LENGTH is that of what stands beside. The output is

@@ -3,6 +3,7 @@ use crate::case::Case;
 use crate::engine::Engine;
 use crate::second::Second;
 use case_text::{Line, differs, end_group};
+use model::{MOST, RECORD};
 use std::io::{self, Write};
 
 // How many cases of the group were tried, and how many came out.
@@ -15,6 +16,24 @@ struct Tally {
 // Where the label stands behind `group`.
 const LABEL: usize = 6;
 
+// Instructions of a case for whose bodies the second model has little room, and some. Room is filled for each case,
+// so that most room for all would take longer than the short ones themselves.
+const LITTLE: usize = 64;
+
+const SOME: usize = 512;
+
+// Whether the second model answers as the line tells, with room for what the case has.
+fn second_comes_out(case: &Case<'_>) -> bool {
+    let longest = case.body.len().max(case.beside.len()) / RECORD;
+    if longest <= LITTLE {
+        case.comes_out::<Second<LITTLE>>()
+    } else if longest <= SOME {
+        case.comes_out::<Second<SOME>>()
+    } else {
+        case.comes_out::<Second<MOST>>()
+    }
+}
+
 // Who does not answer as the line tells; what begins with no call the engine does not answer.
 fn differing(line: Line<'_>, bytes: &[u8]) -> Option<&'static str> {
     let Some(case) = Case::read(line, bytes) else {
@@ -23,7 +42,7 @@ fn differing(line: Line<'_>, bytes: &[u8]) -> Option<&'static str> {
     if !case.comes_out::<Engine>() {
         return Some("the engine");
     }
-    if case.capital || case.comes_out::<Second>() {
+    if case.capital || second_comes_out(&case) {
         return None;
     }
     Some("the second model")

@@ -9,11 +9,11 @@ use model::{Core, MOST, Refusal, Stage, number_of};
 use running::Progress;
 use timing::Extremes;
 
-pub struct Second;
+// It runs bodies of at most N instructions, which are no more than MOST.
+pub struct Second<const N: usize>;
 
-type Pipeline = Core<MOST>;
-
-// No line tells this: a trace has not left by the bound within which the model runs it.
+// No line tells this: a trace has not left by the bound within which the model runs it, or there is more room than for
+// any trace.
 const UNENDED: Refused = Refused(u32::MAX);
 
 // The most unknown flags of a trace of a job that are settled one by one.
@@ -25,14 +25,14 @@ impl From<Refusal> for Refused {
     }
 }
 
-fn slot_of(core: &Pipeline, stage: Stage) -> Slot {
+fn slot_of<const N: usize>(core: &Core<N>, stage: Stage) -> Slot {
     match core.in_stage(stage) {
         Some(slot) => Slot::holding(index(slot.index), slot.count),
         None => Slot::EMPTY,
     }
 }
 
-fn state_of(core: &Pipeline) -> State {
+fn state_of<const N: usize>(core: &Core<N>) -> State {
     State {
         fetched: index(core.fetched()),
         IF: slot_of(core, Stage::IF),
@@ -44,13 +44,16 @@ fn state_of(core: &Pipeline) -> State {
     }
 }
 
-fn finish(body: &[u8], hit_cycles: u32) -> Result<u32, Refused> {
+fn finish<const N: usize>(body: &[u8], hit_cycles: u32) -> Result<u32, Refused> {
     model::check_settled(body, hit_cycles)?;
-    let mut core = Pipeline::of(body)?;
+    if N > MOST {
+        return Err(UNENDED);
+    }
+    let mut core = Core::<N>::of(body)?;
     core.finish(hit_cycles).ok_or(UNENDED)
 }
 
-impl Calls for Second {
+impl<const N: usize> Calls for Second<N> {
     fn check(case: &Case<'_>) -> Result<(), Refused> {
         Ok(model::check_body(case.body)?)
     }
@@ -61,7 +64,10 @@ impl Calls for Second {
 
     fn run(case: &Case<'_>) -> Result<Progress, Refused> {
         model::check_settled(case.body, case.hit_cycles)?;
-        let mut core = Pipeline::of(case.body)?;
+        if N > MOST {
+            return Err(UNENDED);
+        }
+        let mut core = Core::<N>::of(case.body)?;
         let ran = core.run(case.argument, case.hit_cycles);
         Ok(Progress {
             state: state_of(&core),
@@ -71,12 +77,12 @@ impl Calls for Second {
     }
 
     fn finish(case: &Case<'_>) -> Result<u32, Refused> {
-        finish(case.body, case.hit_cycles)
+        finish::<N>(case.body, case.hit_cycles)
     }
 
     fn best_worst(case: &Case<'_>) -> Result<Extremes, Refused> {
         model::check_timed(case.body, case.hit_cycles)?;
-        let found = model::bounds::<MOST>(case.body, case.hit_cycles).ok_or(UNENDED)?;
+        let found = model::bounds::<N>(case.body, case.hit_cycles).ok_or(UNENDED)?;
         Ok(Extremes {
             best: found.best,
             worst: found.worst,
@@ -84,7 +90,7 @@ impl Calls for Second {
     }
 
     fn bus_time(case: &Case<'_>) -> Result<BusTime, Refused> {
-        let found = model_bus::bus_time::<MOST>(case.body, case.argument, case.hit_cycles)?;
+        let found = model_bus::bus_time::<N>(case.body, case.argument, case.hit_cycles)?;
         Ok(BusTime {
             accesses: found.accesses,
             time: found.time.ok_or(UNENDED)?,
@@ -93,13 +99,13 @@ impl Calls for Second {
 
     // "10, 8, 11 of the first, then of the second", with 17 after 8
     fn alike(case: &Case<'_>) -> Result<bool, Refused> {
-        let one = finish(case.body, case.hit_cycles)?;
-        let other = finish(case.beside, case.hit_cycles)?;
+        let one = finish::<N>(case.body, case.hit_cycles)?;
+        let other = finish::<N>(case.beside, case.hit_cycles)?;
         Ok(one == other)
     }
 
     fn worst_times(case: &Case<'_>, list: &mut [u32]) -> Result<u32, Refused> {
-        let traces = model_job::worst_times::<MOST>(case.body, list, FEW, case.hit_cycles)?;
+        let traces = model_job::worst_times::<N>(case.body, list, FEW, case.hit_cycles)?;
         Ok(traces)
     }
 
@@ -130,7 +136,7 @@ impl Calls for Second {
     }
 
     fn margins(case: &Case<'_>) -> bool {
-        match Second::best_worst(case) {
+        match Self::best_worst(case) {
             Ok(found) => case
                 .line
                 .says_margin(0, model::margin(case.argument, found.worst)),

@@ -45,6 +45,17 @@ pub fn flag_number(flag: Flag) -> u32
     flag as u32
 }
 
+// The flag of a number. One that the rules refuse reads as unknown, as the definition `flag_of` has it.
+pub fn flag_of(number: u32) -> Flag
+    ensures { flag_named result ≡ flag_of number }
+{
+    match number {
+        0 => Flag::Hit,
+        1 => Flag::Miss,
+        _ => Flag::Unknown,
+    }
+}
+
 pub fn kind(f: Fields) -> Kind
     ensures { kind_named result ≡ (instruction_of f).kind }
 {

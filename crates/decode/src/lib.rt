@@ -9,8 +9,8 @@ pub mod waits;
 
 pub use counts::{count_in_if, count_in_last, count_in_mem, count_in_st, cycles_in_last};
 pub use kinds::{
-    access_hits, access_misses, fetch_hits, flag_number, holds_fetches, is_load, is_store, kind,
-    kind_number, kind_of, misses_data, reads_in_id,
+    access_hits, access_misses, fetch_hits, flag_number, flag_of, holds_fetches, is_load, is_store,
+    kind, kind_number, kind_of, misses_data, reads_in_id,
 };
 pub use record::choose;
-pub use waits::{pending, waits_for};
+pub use waits::{pending, stage_of, waits_for};

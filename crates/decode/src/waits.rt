@@ -2,12 +2,29 @@
 ghost use Rattle.std.specs.Prelude.{◌≡◌, false};
 ghost use Rattle.machine.specs.Rules.{pre, same};
 ghost use Rattle.machine.specs.Named.{stage_named};
+ghost use Rattle.machine.proofs.Stages.{stage_at};
 ghost use Rattle.machine.proofs.Hazards.{pending, goal, asks_for};
 ghost use Rattle.record.specs.Rules.{instruction_of};
 
 use crate::kinds::{fetch_hits, holds_fetches, is_load, is_store, misses_data, reads_in_id};
 use machine::Stage;
 use record::Fields;
+
+// The stage of a number, from pre 0 on: post for 7 and above.
+pub fn stage_of(number: u32) -> Stage
+    ensures { stage_named result ≡ stage_at number }
+{
+    match number {
+        0 => Stage::Pre,
+        1 => Stage::IF,
+        2 => Stage::ID,
+        3 => Stage::EX,
+        4 => Stage::MEM,
+        5 => Stage::ST,
+        6 => Stage::WB,
+        _ => Stage::Post,
+    }
+}
 
 // The stage that an instruction has to reach with count 0 before others stop waiting for it; nobody
 // waits for one whose stage is pre.

@@ -14,6 +14,7 @@ use case::Case;
 use files::long_ones_agree;
 use print::print;
 use random_traces::{Dice, Draft, Style, trace};
+use std::io;
 use tally::Tally;
 
 const TRACES: u32 = 40000;
@@ -70,9 +71,10 @@ impl Tally {
     }
 }
 
-fn main(rt: HostRuntime) -> anyhow::Result<()> {
+fn main(rt: HostRuntime) -> io::Result<()> {
     let mut tally = Tally::default();
-    tally.all_turns()?;
+    let misfit = |_| io::Error::other("a file that does not fit its room");
+    tally.all_turns().map_err(misfit)?;
     print(&rt, &tally)?;
     if long_ones_agree() {
         println!(rt; "and on what is too long to open or to write")?;

@@ -66,9 +66,10 @@ impl Tally {
     }
 }
 
-fn main(rt: HostRuntime) -> anyhow::Result<()> {
+fn main(rt: HostRuntime) -> io::Result<()> {
     let mut tally = Tally::default();
-    tally.all_turns()?;
+    let misfit = |_| io::Error::other("a file that does not fit its room");
+    tally.all_turns().map_err(misfit)?;
     tally.long_file();
     print(&rt, &tally)?;
     Ok(())

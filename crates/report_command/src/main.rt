@@ -58,15 +58,13 @@ fn report_against<'a>(
     let mut input = [0u8; INPUT_BYTES];
     let file = read_part(&mut rt.reader(), &mut input);
     let outcome = try_report(file, deadlines, room, hit_cycles)?;
-    let text: &'a [u8] = room;
-    let misfit = Complaint::Misfit {
-        deadlines: deadlines.len(),
-        traces: outcome.traces,
+    let Some(length) = outcome.length else {
+        return Err(Complaint::Misfit {
+            deadlines: deadlines.len(),
+            traces: outcome.traces,
+        });
     };
-    outcome
-        .length
-        .and_then(|length| text.get(..length))
-        .ok_or(misfit)
+    Ok(&room[..length])
 }
 
 // Without the option a data hit takes no cycles.

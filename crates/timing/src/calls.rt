@@ -56,11 +56,14 @@ pub fn margin(body: &[u8], deadline: u32, hit_cycles: u32) -> Result<i64, Refusa
     Ok(difference(deadline, worst))
 }
 
-// Whether two bodies without unknown flags have equal finishing times.
+// Whether two bodies without unknown flags have equal finishing times. Neither is timed before both are
+// checked.
 pub fn alike(first: &[u8], second: &[u8], hit_cycles: u32) -> Result<bool, Refusal>
     ensures { likeness result ≡ alike_answer first.now second.now hit_cycles }
 {
-    let time1 = finish(first, hit_cycles)?;
-    let time2 = finish(second, hit_cycles)?;
+    check_settled(first, hit_cycles)?;
+    check_settled(second, hit_cycles)?;
+    let time1 = finish_settled(first, Flag::Hit, hit_cycles);
+    let time2 = finish_settled(second, Flag::Hit, hit_cycles);
     Ok(time1 == time2)
 }
