@@ -2,6 +2,8 @@
 // are pairs, a job file and its chart.
 #![tactic(auto)]
 
+ghost use Rattle.std.specs.Prelude.{◌≤◌, IfSome, length};
+
 use chart_text::{CHART_BYTES, draw};
 use reading::{INPUT_BYTES, WORD_BYTES, arg_count, argument, read_part};
 use std::fs::File;
@@ -9,7 +11,9 @@ use std::io;
 use std::rt::{Env, Files};
 
 // What the file that argument i names holds, as far as the room that is lent reaches.
-fn read_named<'a>(rt: &(impl Env + Files), i: usize, room: &'a mut [u8]) -> Option<&'a [u8]> {
+fn read_named<'a>(rt: &(impl Env + Files), i: usize, room: &'a mut [u8]) -> Option<&'a [u8]>
+    ensures { IfSome result (λ bytes. length bytes.now ≤ length room.old) }
+{
     let mut word = [0u8; WORD_BYTES];
     let path = str::from_utf8(argument(rt, i, &mut word)?).ok()?;
     let mut file = File::open(rt, path).ok()?;

@@ -5,7 +5,7 @@ use super::trace::{Instruction, MOST, RECORD, records};
 
 // "Newer cores spend h more cycles, 0 to 15, on a data hit" (document 02, F-4). The code calls h
 // `hit_cycles`.
-const MOST_HIT_CYCLES: u32 = 15;
+pub const MOST_HIT_CYCLES: u32 = 15;
 
 // 8 where some record breaks its rules or is not whole.
 pub fn check_records(bytes: &[u8]) -> Result<(), Refusal> {
@@ -29,14 +29,15 @@ pub fn check_body(body: &[u8]) -> Result<(), Refusal> {
 }
 
 // "A load or store whose data latency is not above h" (document 02, F-4), whatever its flag.
-fn too_short(record: &[u8; RECORD], hit_cycles: u32) -> bool {
-    Instruction::read(record).is_ok_and(|x| x.kind.has_data() && x.data_latency <= hit_cycles)
+fn too_short(x: Instruction, hit_cycles: u32) -> bool {
+    x.kind.has_data() && x.data_latency <= hit_cycles
 }
 
-// 17: "h above 15, or a load or store whose data latency is not above h" (document 02, F-4), in an accepted body. The
-// first declines an empty body too.
+// 17: "h above 15, or a load or store whose data latency is not above h" (document 02, F-4). The first declines an empty
+// body too.
 pub fn check_hits(body: &[u8], hit_cycles: u32) -> Result<(), Refusal> {
-    if hit_cycles > MOST_HIT_CYCLES || records(body).iter().any(|r| too_short(r, hit_cycles)) {
+    let short = |record| too_short(Instruction::of(record), hit_cycles);
+    if hit_cycles > MOST_HIT_CYCLES || records(body).iter().any(short) {
         return Err(Refusal::HitCycles);
     }
     Ok(())

@@ -85,6 +85,7 @@ pub fn open(file: &[u8], trace: u32) -> Result<Range<usize>, Refusal> {
 
 fn total(counts: &[u16]) -> usize
     requires { length counts.now ≤ 16 }
+    ensures { result ≤ 1048576 }
 {
     counts.iter().map(|&count| usize::from(count)).sum()
 }

@@ -14,10 +14,16 @@ mod sets;
 mod settlings;
 mod trace;
 
-pub use body::{check_body, check_hits, check_settled, check_timed};
+pub use body::{MOST_HIT_CYCLES, check_body, check_hits, check_settled, check_timed};
 pub use job::{check_write, open};
 pub use places::{Core, Place, Slot, Stage, Standing};
 pub use refusal::{Refusal, number_of};
 pub use runs::Ran;
-pub use settlings::{Times, all_hits_all_misses, bounds, finish_with_all, margin, unknowns};
-pub use trace::{Flag, Instruction, Kind, MOST, RECORD, instruction_at, records};
+pub use settlings::{
+    Times, all_hits_all_misses, bounds, bounds_in, finish_with_all, finish_with_all_in, margin,
+    unknowns,
+};
+pub use trace::{
+    DATA_LATENCY, FETCH_LATENCY, FLAGS, Flag, Instruction, Kind, MOST, RECORD, instruction_at,
+    records,
+};

@@ -1,5 +1,5 @@
 // Where the instructions of a trace stand.
-ghost use Rattle.std.specs.Prelude.{◌≤◌, ◌<◌, IfSome, length};
+ghost use Rattle.std.specs.Prelude.{◌≡◌, ◌≤◌, ◌<◌, ◌*◌, IfOk, IfErr, IfSome, length};
 
 use super::refusal::Refusal;
 use super::trace::{Instruction, RECORD};
@@ -59,18 +59,43 @@ pub struct Core<const N: usize> {
 }
 
 impl<const N: usize> Core<N> {
-    // "The starting state has everything in pre." Declined where N are too few, or a record breaks its rules.
-    pub fn of(body: &[u8]) -> Result<Core<N>, Refusal> {
+    // Without an instruction.
+    pub(crate) fn empty() -> Core<N>
+        ensures { result.size ≡ 0 }
+    {
+        Core {
+            all: [Standing::default(); N],
+            size: 0,
+        }
+    }
+
+    // A trace in place of the one before. "The starting state has everything in pre." Declined where N are too few, or a
+    // record breaks its rules; then there is no instruction.
+    pub(crate) fn read(&mut self, body: &[u8]) -> Result<(), Refusal>
+        ensures read { IfOk result (λ _. length body.now ≡ 10 * self.new.size) }
+        ensures declined { IfErr result (λ _. self.new.size ≡ 0) }
+    {
+        self.size = 0;
         let (records, rest) = body.as_chunks::<RECORD>();
         let size = records.len();
         if size > N || !rest.is_empty() {
             return Err(Refusal::BodyLength);
         }
-        let mut all = [Standing::default(); N];
-        for (s, record) in all.iter_mut().zip(records) {
-            s.instruction = Instruction::read(record)?;
+        for (s, record) in self.all.iter_mut().zip(records) {
+            *s = Standing {
+                instruction: Instruction::read(record)?,
+                place: Place::default(),
+            };
         }
-        Ok(Core { all, size })
+        self.size = size;
+        Ok(())
+    }
+
+    // The starting state of a trace, declined as in `read`.
+    pub fn of(body: &[u8]) -> Result<Core<N>, Refusal> {
+        let mut core = Core::empty();
+        core.read(body)?;
+        Ok(core)
     }
 
     pub fn row(&self) -> &[Standing]

@@ -1,32 +1,29 @@
 // The settlings of a trace, and the least and the greatest finishing time over all of them.
-ghost use Rattle.std.specs.Prelude.{◌≤◌};
+ghost use Rattle.std.specs.Prelude.{◌≤◌, ◌*◌, IfSome, length};
 
 use super::places::Core;
-use super::trace::{Flag, MOST, RECORD, records};
+use super::trace::{Flag, Instruction, MOST, records};
 
-// The unknown flags of a record, whether or not it keeps its rules.
-fn unknown_in(record: &[u8; RECORD]) -> u32
+fn unknown_in(x: Instruction) -> u32
     ensures { result ≤ 2 }
 {
-    let flags = record[1];
-    let fetch = flags % 4 == Flag::Unknown as u8;
-    let data = flags / 4 % 4 == Flag::Unknown as u8;
-    u32::from(fetch) + u32::from(data)
+    u32::from(x.fetch == Flag::Unknown) + u32::from(x.data == Flag::Unknown)
 }
 
 // The number of unknown flags.
 pub fn unknowns(body: &[u8]) -> u32 {
     let all = records(body).iter();
-    all.fold(0, |found: u32, r| found.saturating_add(unknown_in(r)))
+    all.fold(0, |found: u32, record| {
+        found.saturating_add(unknown_in(Instruction::of(record)))
+    })
 }
 
 impl<const N: usize> Core<N> {
     // Each unknown flag as the choice says, in the trace's order, the fetch before the data access.
-    fn settled_by<C: FnMut() -> Flag>(&self, mut choose: C) -> Core<N>
+    fn settle_by<C: FnMut() -> Flag>(&mut self, mut choose: C)
         requires { C.IsAlwaysCallable choose }
     {
-        let mut core = *self;
-        for s in core.row_mut() {
+        for s in self.row_mut() {
             if s.instruction.fetch == Flag::Unknown {
                 s.instruction.fetch = choose();
             }
@@ -34,22 +31,30 @@ impl<const N: usize> Core<N> {
                 s.instruction.data = choose();
             }
         }
-        core
     }
 
     // One settling: bit b of `choice` makes the b-th unknown flag a miss, and 0 there a hit.
-    pub fn settled(&self, choice: u32) -> Core<N> {
+    fn settle(&mut self, choice: u32) {
         let mut bits = choice;
-        self.settled_by(|| {
+        self.settle_by(|| {
             let miss = bits % 2 == 1;
             bits /= 2;
             if miss { Flag::Miss } else { Flag::Hit }
-        })
+        });
+    }
+
+    // The same, of a core that stays as it is.
+    pub fn settled(&self, choice: u32) -> Core<N> {
+        let mut core = *self;
+        core.settle(choice);
+        core
     }
 
     // The settling that makes every unknown flag the same, a hit or a miss.
     pub fn settled_all(&self, flag: Flag) -> Core<N> {
-        self.settled_by(|| flag)
+        let mut core = *self;
+        core.settle_by(|| flag);
+        core
     }
 }
 
@@ -65,20 +70,32 @@ pub struct Times {
     pub worst: u32,
 }
 
-// Best and worst over all settlings, each of which is run: twice as many for each unknown flag more. There is room for N
-// instructions, which are no more than MOST.
-pub fn bounds<const N: usize>(body: &[u8], hit_cycles: u32) -> Option<Times> {
-    if N > MOST {
-        return None;
-    }
-    let core = Core::<N>::of(body).ok()?;
+// The finishing time of one settling, in a lent core: what is read anew is the trace alone, however much room there is.
+fn time_of<const N: usize>(
+    core: &mut Core<N>,
+    body: &[u8],
+    choice: u32,
+    hit_cycles: u32,
+) -> Option<u32>
+    ensures { IfSome result (λ _. length body.now ≤ 10 * N) }
+{
+    core.read(body).ok()?;
+    core.settle(choice);
+    core.finish(hit_cycles)
+}
+
+// Best and worst over all settlings, each of which is run: twice as many for each unknown flag more. They are run in a
+// lent core, which has room for N instructions.
+pub fn bounds_in<const N: usize>(core: &mut Core<N>, body: &[u8], hit_cycles: u32) -> Option<Times>
+    ensures { IfSome result (λ times. (times.best ≤ times.worst) × (length body.now ≤ 10 * N)) }
+{
+    let first = time_of(core, body, 0, hit_cycles)?;
     let mut times = Times {
-        best: u32::MAX,
-        worst: 0,
+        best: first,
+        worst: first,
     };
-    for choice in 0..=last_choice(body) {
-        let mut settled = core.settled(choice);
-        let time = settled.finish(hit_cycles)?;
+    for choice in 1..=last_choice(body) {
+        let time = time_of(core, body, choice, hit_cycles)?;
         times = Times {
             best: times.best.min(time),
             worst: times.worst.max(time),
@@ -87,14 +104,36 @@ pub fn bounds<const N: usize>(body: &[u8], hit_cycles: u32) -> Option<Times> {
     Some(times)
 }
 
-// The finishing time with every unknown flag a hit, or every one a miss.
+// The same in a core of its own. There is room for N instructions, which are no more than MOST.
+pub fn bounds<const N: usize>(body: &[u8], hit_cycles: u32) -> Option<Times> {
+    if N > MOST {
+        return None;
+    }
+    bounds_in(&mut Core::<N>::empty(), body, hit_cycles)
+}
+
+// The finishing time with every unknown flag a hit, or every one a miss, run in a lent core.
+pub fn finish_with_all_in<const N: usize>(
+    core: &mut Core<N>,
+    body: &[u8],
+    flag: Flag,
+    hit_cycles: u32,
+) -> Option<u32>
+    ensures { IfSome result (λ _. length body.now ≤ 10 * N) }
+{
+    if core.read(body).is_err() {
+        return None;
+    }
+    core.settle_by(|| flag);
+    core.finish(hit_cycles)
+}
+
+// The same in a core of its own.
 pub fn finish_with_all<const N: usize>(body: &[u8], flag: Flag, hit_cycles: u32) -> Option<u32> {
     if N > MOST {
         return None;
     }
-    let core = Core::<N>::of(body).ok()?;
-    let mut settled = core.settled_all(flag);
-    settled.finish(hit_cycles)
+    finish_with_all_in(&mut Core::<N>::empty(), body, flag, hit_cycles)
 }
 
 // For a trace with more unknown flags than can be settled one by one: the time with every unknown flag

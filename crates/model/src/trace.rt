@@ -1,13 +1,19 @@
 // A trace is the bytes of its body: at most 4,096 records, each of which is read as an instruction.
-ghost use Rattle.std.specs.Prelude.{◌≤◌, length};
+ghost use Rattle.std.specs.Prelude.{◌≤◌, ◌<◌, length};
 
 use super::refusal::Refusal;
 
 // Instructions of a trace.
 pub const MOST: usize = 4096;
 
-// Bytes of a record.
+// Bytes of a record, and where the fields start that a settling or a wait alters.
 pub const RECORD: usize = 10;
+
+pub const FLAGS: usize = 1;
+
+pub const FETCH_LATENCY: usize = 6;
+
+pub const DATA_LATENCY: usize = 8;
 
 // In the order of their numbers. "Kind 4, a jump" (document 02, F-6).
 #[derive(Clone, Copy, Debug, Default, PartialEq, Eq)]
@@ -79,14 +85,18 @@ pub struct Instruction {
 }
 
 // Two bytes, little endian.
-fn pair(low: u8, high: u8) -> u32 {
+fn pair(low: u8, high: u8) -> u32
+    ensures { result < 65536 }
+{
     u32::from(u16::from_le_bytes([low, high]))
 }
 
 impl Instruction {
-    // The instruction of a record that keeps its rules. "Bits 4 to 7 are zero": a flag has two bits, and no flag has a
-    // number that more than two would give.
-    pub fn read(record: &[u8; RECORD]) -> Result<Instruction, Refusal> {
+    // The instruction of a record, whether or not it keeps the rules: a kind that is none is read as plain, which has no
+    // data access, and a flag that is none as a hit, which is not counted.
+    pub fn of(record: &[u8; RECORD]) -> Instruction
+        ensures { (result.fetch_latency < 65536) × (result.data_latency < 65536) }
+    {
         let [
             kind,
             flags,
@@ -99,17 +109,27 @@ impl Instruction {
             d0,
             d1,
         ] = *record;
-        let x = Instruction {
-            kind: Kind::try_from(kind)?,
-            fetch: Flag::try_from(flags % 4)?,
-            data: Flag::try_from(flags / 4)?,
+        Instruction {
+            kind: Kind::try_from(kind).unwrap_or_default(),
+            fetch: Flag::try_from(flags % 4).unwrap_or_default(),
+            data: Flag::try_from(flags / 4 % 4).unwrap_or_default(),
             first,
             second,
             target,
             execution: u32::from(execution),
             fetch_latency: pair(f0, f1),
             data_latency: pair(d0, d1),
-        };
+        }
+    }
+
+    // The instruction of a record that keeps its rules. "Bits 4 to 7 are zero": a flag has two bits, and no flag has a
+    // number that more than two would give.
+    pub fn read(record: &[u8; RECORD]) -> Result<Instruction, Refusal> {
+        let [kind, flags, ..] = *record;
+        Kind::try_from(kind)?;
+        Flag::try_from(flags % 4)?;
+        Flag::try_from(flags / 4)?;
+        let x = Instruction::of(record);
         if x.registers_break() || x.data_breaks() || x.fetch_latency == 0 {
             return Err(Refusal::BrokenRecord);
         }
@@ -142,7 +162,14 @@ pub fn records(body: &[u8]) -> &[[u8; RECORD]]
     &all[..all.len().min(MOST)]
 }
 
-// Instruction i of a body: none past the end, or where its record breaks its rules.
-pub fn instruction_at(body: &[u8], i: usize) -> Option<Instruction> {
-    Instruction::read(records(body).get(i)?).ok()
+// Instruction i of a body, whether or not its record keeps the rules. Past the end every byte is 0.
+pub fn instruction_at(body: &[u8], i: usize) -> Instruction
+    ensures { (result.fetch_latency < 65536) × (result.data_latency < 65536) }
+{
+    let rest = body.get(i.saturating_mul(RECORD)..).unwrap_or(b"");
+    let mut record = [0; RECORD];
+    for (byte, &read) in record.iter_mut().zip(rest) {
+        *byte = read;
+    }
+    Instruction::of(&record)
 }

@@ -1,6 +1,8 @@
 // The call: "counts N, the fetches and the load and store accesses marked miss or unknown, and gives worst
 // time plus N times d" (document 02, F-1).
-use model::{Flag, Instruction, RECORD, Refusal};
+ghost use Rattle.std.specs.Prelude.{◌≤◌};
+
+use model::{Flag, Instruction, Refusal};
 
 // The longest that a latency with its wait may be.
 const LONGEST: u32 = 65535;
@@ -23,23 +25,24 @@ fn marked_data(x: Instruction) -> bool {
 }
 
 // How many of an instruction's two accesses are counted.
-fn counted(record: &[u8; RECORD]) -> u32 {
-    Instruction::read(record).map_or(0, |x| {
-        u32::from(marked(x.fetch)) + u32::from(marked_data(x))
-    })
+fn counted(x: Instruction) -> u32
+    ensures { result ≤ 2 }
+{
+    u32::from(marked(x.fetch)) + u32::from(marked_data(x))
 }
 
 // N.
 pub fn accesses(body: &[u8]) -> u32 {
     let all = model::records(body).iter();
-    all.fold(
-        0,
-        |found: u32, record| found.saturating_add(counted(record)),
-    )
+    all.fold(0, |found: u32, record| {
+        found.saturating_add(counted(Instruction::of(record)))
+    })
 }
 
+// A wait has two bytes, so that nothing wraps. A line of the cases may give a number that is no wait: then this sum and
+// those of `bus_time` wrap, and are no times.
 fn exceeds(latency: u32, wait: u32) -> bool {
-    latency.saturating_add(wait) > LONGEST
+    latency.wrapping_add(wait) > LONGEST
 }
 
 // "A counted latency plus d exceeds 65,535": the latency of an access that hits is not asked.
@@ -52,7 +55,7 @@ fn too_long(x: Instruction, wait: u32) -> bool {
 // "Refuses 10, 8, then 15", with "17, after 8" (document 02, F-4).
 pub fn check_bus(body: &[u8], wait: u32, hit_cycles: u32) -> Result<(), Refusal> {
     model::check_timed(body, hit_cycles)?;
-    let long = |record| Instruction::read(record).is_ok_and(|x| too_long(x, wait));
+    let long = |record| too_long(Instruction::of(record), wait);
     if model::records(body).iter().any(long) {
         return Err(Refusal::LongWait);
     }
@@ -60,7 +63,7 @@ pub fn check_bus(body: &[u8], wait: u32, hit_cycles: u32) -> Result<(), Refusal>
 }
 
 // "Worst time plus N times d", over all settlings, each of which is run, of a body of at most N instructions. It is at
-// most document 01's bound for the latencies with their waits, so that nothing is cut off.
+// most document 01's bound for the latencies with their waits, so that nothing wraps where the wait has two bytes.
 pub fn bus_time<const N: usize>(
     body: &[u8],
     wait: u32,
@@ -68,10 +71,10 @@ pub fn bus_time<const N: usize>(
 ) -> Result<BusTime, Refusal> {
     check_bus(body, wait, hit_cycles)?;
     let accesses = accesses(body);
-    let waits = accesses.saturating_mul(wait);
+    let waits = accesses.wrapping_mul(wait);
     let times = model::bounds::<N>(body, hit_cycles);
     Ok(BusTime {
         accesses,
-        time: times.map(|t| t.worst.saturating_add(waits)),
+        time: times.map(|t| t.worst.wrapping_add(waits)),
     })
 }

@@ -1,8 +1,8 @@
 // The traces that the time on a shared bus has to cover: "every settling of the flags and every added wait from 0
 // to d on each missed access" (document 02, F-1). Each is a version of the trace, a body of its own.
-ghost use Rattle.std.specs.Prelude.{◌<◌, ◌≤◌};
+ghost use Rattle.std.specs.Prelude.{◌<◌};
 
-use model::{Flag, Instruction, RECORD};
+use model::{DATA_LATENCY, FETCH_LATENCY, FLAGS, Flag, Instruction, RECORD};
 
 // An access of a version.
 #[derive(Clone, Copy)]
@@ -48,37 +48,52 @@ fn pair(latency: u32) -> [u8; 2] {
     ((latency % 65536) as u16).to_le_bytes()
 }
 
+// The number of a version's flag; what is no flag, in a record that breaks its rules, stays.
+fn number(flag: Flag, before: u8) -> u8
+    requires { before < 4 }
+    ensures { result < 4 }
+{
+    if Flag::try_from(before).is_ok() {
+        flag as u8
+    } else {
+        before
+    }
+}
+
 // Alters a record by the last digits of the choice, which go.
 fn put_version(record: &mut [u8; RECORD], wait: u32, choice: &mut u32)
     requires { wait < 65536 }
 {
-    let Ok(x) = Instruction::read(record) else {
-        return;
-    };
+    let x = Instruction::of(record);
     let fetch = chosen(x.fetch, x.fetch_latency, wait, choice);
     let access = chosen(x.data, x.data_latency, wait, choice);
-    let [kind, _, first, second, target, execution, ..] = *record;
-    let flags = fetch.flag as u8 + 4 * access.flag as u8;
-    let [f0, f1] = pair(fetch.latency);
-    let [d0, d1] = pair(access.latency);
-    *record = [
-        kind, flags, first, second, target, execution, f0, f1, d0, d1,
-    ];
+    let flags = record[FLAGS];
+    record[FLAGS] = number(fetch.flag, flags % 4) + 4 * number(access.flag, flags / 4 % 4);
+    record[FETCH_LATENCY..DATA_LATENCY].copy_from_slice(&pair(fetch.latency));
+    record[DATA_LATENCY..].copy_from_slice(&pair(access.latency));
 }
 
-// One version of an accepted body, at the start of `out`, which has room for it; the versions have the choices from 0
-// on. Gives the rest of the choice, which is not 0 where there is no such version, since there are not so many.
+// Nothing is put past the end.
+fn put(out: &mut [u8], start: usize, record: &[u8; RECORD]) {
+    if let Some(room) = out.get_mut(start..) {
+        for (place, byte) in room.iter_mut().zip(record) {
+            *place = *byte;
+        }
+    }
+}
+
+// One version of an accepted body, at the start of `out`; the versions have the choices from 0 on. Gives the
+// rest of the choice, which is not 0 where there is no such version, since there are not so many.
 pub fn version(body: &[u8], choice: u32, wait: u32, out: &mut [u8]) -> u32
     requires { wait < 65536 }
 {
-    let Some((room, _)) = out.split_at_mut_checked(body.len()) else {
-        return choice;
-    };
-    room.copy_from_slice(body);
-    let (records, _) = room.as_chunks_mut::<RECORD>();
+    let end = body.len().min(out.len());
+    out[..end].copy_from_slice(&body[..end]);
     let mut left = choice;
-    for record in records {
-        put_version(record, wait, &mut left);
+    for (i, record) in model::records(body).iter().enumerate() {
+        let mut altered = *record;
+        put_version(&mut altered, wait, &mut left);
+        put(out, RECORD * i, &altered);
     }
     left
 }

@@ -16,8 +16,7 @@ fn is_busy(body: &[u8], slot: Slot, stage: Stage) -> bool {
         stage,
         count: slot.count,
     };
-    slot.filled
-        && model::instruction_at(body, slot.index as usize).is_some_and(|x| is_under_way(x, at))
+    slot.filled && is_under_way(model::instruction_at(body, slot.index as usize), at)
 }
 
 fn under_way(body: &[u8], s: State) -> usize {
